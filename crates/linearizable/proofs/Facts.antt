@@ -1,0 +1,157 @@
+-- Facts about tests, requests in a list and the functions of the rules that choose: each is proved once and used by every step.
+-- Assumes nothing.
+use mathlib.Core.Path.{_≡_, refl, ap}
+use mathlib.Core.Logic.{_≢_}
+use mathlib.Core.Bool.{Bool, true, false, cond, not, _&&_, _||_}
+use mathlib.Core.List.{List, [], _∷_, _++_, map}
+use Prim.Native.Nat.{ℕ, zero, suc, _+_, _≤_, _<_, zero-le}
+use native.Mathlib.Omega.{arith}
+use borrow.Author.Tests.{ltb-true, leb-true, eqb-true, eqb-false, eq-eqb, le-leb, lt-ltb}
+use lib.Dec.{leb, ltb, eqb}
+use Rattle.store.specs.Model.{put, fill, within}
+use Rattle.requests.specs.declared.Request.{Request}
+use Rattle.players.specs.Replies.{refusal}
+use Rattle.requests.specs.Model.{any, keep, find}
+use Rattle.players.specs.Rules.{State, Result, check, every}
+
+-- Tests
+
+pub and-left : (a b : Bool) → (a && b) ≡ true → a ≡ true
+and-left true b h = refl
+and-left false b h = h
+
+pub and-right : (a b : Bool) → (a && b) ≡ true → b ≡ true
+and-right true b h = h
+and-right false b h = cc
+
+pub and-true : (a b : Bool) → a ≡ true → b ≡ true → (a && b) ≡ true
+and-true true b h k = k
+and-true false b h k = h
+
+pub not-of : (b : Bool) → b ≡ false → not b ≡ true
+not-of b h = ap not h
+
+pub or-left : (a b : Bool) → (a || b) ≡ false → a ≡ false
+or-left true b h = h
+or-left false b h = refl
+
+pub or-right : (a b : Bool) → (a || b) ≡ false → b ≡ false
+or-right true b h = cc
+or-right false b h = h
+
+pub clash {ℓ} : {A : Type ℓ} {b : Bool} → b ≡ true → b ≡ false → A
+clash {b = b} p q = let z : _≡_ {A = ℕ} 0 1 = cc in absurd (omega arith)
+
+-- a test by its two values, with the equation
+pub bool-elim : {P : Type 0} (b : Bool) → (b ≡ true → P) → (b ≡ false → P) → P
+bool-elim true t f = t refl
+bool-elim false t f = f refl
+
+-- what holds of both branches holds of the choice
+pub cond-elim {ℓ} : {A : Type ℓ} (P : A → Type 0) (b : Bool) (x y : A) → (b ≡ true → P x) → (b ≡ false → P y) → P (cond b x y)
+cond-elim P true x y t f = t refl
+cond-elim P false x y t f = f refl
+
+pub check-elim : (P : Result → Type 0) (s : State) (b : Bool) (n : ℕ) (r : Result) → P (record { state = s; reply = refusal n }) → (b ≡ false → P r) → P (check s b n r)
+check-elim P s true n r p f = p
+check-elim P s false n r p f = f refl
+
+pub put-elim : {A : Type 0} (P : A → Type 0) (k : ℕ) (v : A) (f : ℕ → A) (e : ℕ) → (e ≡ k → P v) → (e ≢ k → P (f e)) → P (put k v f e)
+put-elim P k v f e h g = cond-elim P (eqb e k) v (f e) (λ t. h (eqb-true e k t)) (λ t. g (eqb-false e k t))
+
+pub fill-elim : {A : Type 0} (P : A → Type 0) (lo hi : ℕ) (v : A) (f : ℕ → A) (e : ℕ) → (lo ≤ e → e < hi → P v) → P (f e) → P (fill lo hi v f e)
+fill-elim P lo hi v f e h g =
+    cond-elim P (within lo hi e) v (f e) (λ t. h (leb-true lo e (and-left (leb lo e) (ltb e hi) t)) (ltb-true e hi (and-right (leb lo e) (ltb e hi) t))) (λ t. g)
+
+pub put-same : {A : Type 0} (k : ℕ) (v : A) (f : ℕ → A) → put k v f k ≡ v
+put-same k v f = ap (λ (b : Bool). cond b v (f k)) (eq-eqb k k refl)
+
+pub within-true : (lo hi e : ℕ) → lo ≤ e → e < hi → within lo hi e ≡ true
+within-true lo hi e h k = and-true (leb lo e) (ltb e hi) (le-leb lo e h) (lt-ltb e hi k)
+
+pub fill-in : {A : Type 0} (lo hi : ℕ) (v : A) (f : ℕ → A) (e : ℕ) → lo ≤ e → e < hi → fill lo hi v f e ≡ v
+fill-in lo hi v f e h k = ap (λ (b : Bool). cond b v (f e)) (within-true lo hi e h k)
+
+pub every-at : (lo n : ℕ) (f : ℕ → Bool) (e : ℕ) → every lo n f ≡ true → lo ≤ e → e < lo + n → f e ≡ true
+every-at lo zero f e h a b = absurd (omega arith)
+every-at lo (suc n) f e h a b =
+    bool-elim (eqb e lo) (λ t. let z : e ≡ lo = eqb-true e lo t in rw z (and-left (f lo) (every (suc lo) n f) h))
+    (λ t. let z : e ≢ lo = eqb-false e lo t in every-at (suc lo) n f e (and-right (f lo) (every (suc lo) n f) h) (omega arith) (omega arith))
+
+-- a number that is 0 or within the bound
+pub if-set : (n m : ℕ) → (n ≢ 0 → n ≤ m) → n ≤ m
+if-set zero m h = zero-le
+if-set (suc n) m h = h (omega arith)
+
+-- Requests in a list
+
+pub data In (r : Request) : List Request → Type 0 where
+  here : {rs : List Request} → In r (r ∷ rs)
+  there : {q : Request} {rs : List Request} → In r rs → In r (q ∷ rs)
+
+pub no-request : {A : Type 0} {r : Request} → In r [] → A
+no-request m = elim m [ ]
+
+-- what holds of each request of the new list: by the old list
+pub all-map : (P : Request → Type 0) (f : Request → Request) (rs : List Request) → ((r : Request) → In r rs → P (f r)) → (r : Request) → In r (map f rs) → P r
+all-map P f [] h r i = elim i [ ]
+all-map P f (q ∷ rs) h r here = h q here
+all-map P f (q ∷ rs) h r (there i) = all-map P f rs (λ x j. h x (there j)) r i
+
+keep-one : (P : Request → Type 0) (q : Request) (rs : List Request) (b : Bool) → (b ≡ true → P q) → ((r : Request) → In r rs → P r) → (r : Request) → In r (cond b (q ∷ rs) rs) → P r
+keep-one P q rs true p k r here = p refl
+keep-one P q rs true p k r (there j) = k r j
+keep-one P q rs false p k r j = k r j
+
+pub all-keep : (P : Request → Type 0) (f : Request → Bool) (rs : List Request) → ((r : Request) → In r rs → f r ≡ true → P r) → (r : Request) → In r (keep f rs) → P r
+all-keep P f [] h r i = elim i [ ]
+all-keep P f (q ∷ rs) h r i = keep-one P q (keep f rs) (f q) (h q here) (all-keep P f rs (λ x k. h x (there k))) r i
+
+pub all-append : (P : Request → Type 0) (rs : List Request) (q : Request) → ((r : Request) → In r rs → P r) → P q → (r : Request) → In r (rs ++ (q ∷ [])) → P r
+all-append P [] q h p r here = p
+all-append P (x ∷ rs) q h p r here = h x here
+all-append P (x ∷ rs) q h p r (there i) = all-append P rs q (λ y j. h y (there j)) p r i
+
+pub any-none : (f : Request → Bool) (rs : List Request) → any f rs ≡ false → (r : Request) → In r rs → f r ≡ false
+any-none f (q ∷ rs) h r here = or-left (f q) (any f rs) h
+any-none f (q ∷ rs) h r (there i) = any-none f rs (or-right (f q) (any f rs) h) r i
+
+pub find-elim : {A : Type 0} (P : A → Type 0) (f : Request → Bool) (rs : List Request) (none : A) (some : Request → A) → P none → ((r : Request) → In r rs → f r ≡ true → P (some r)) → P (find f rs none some)
+find-elim P f [] none some p h = p
+find-elim P f (q ∷ rs) none some p h =
+    cond-elim P (f q) (some q) (find f rs none some) (h q here) (λ t. find-elim P f rs none some p (λ r i. h r (there i)))
+
+-- Rising serials
+
+abbrev pub Rising : ℕ → List Request → Type 0
+Rising n [] = Unit {0}
+Rising n (r ∷ rs) = (n < r .serial) × Rising (r .serial) rs
+
+pub rising-weak : (n m : ℕ) (rs : List Request) → m ≤ n → Rising n rs → Rising m rs
+rising-weak n m [] h t = tt
+rising-weak n m (r ∷ rs) h t = let k = t .0 in (omega arith, t .1)
+
+pub rising-map : (f : Request → Request) → ((r : Request) → f r .serial ≡ r .serial) → (n : ℕ) (rs : List Request) → Rising n rs → Rising n (map f rs)
+rising-map f h n [] t = tt
+rising-map f h n (r ∷ rs) t = rw h (t .0, rising-map f h (r .serial) rs (t .1))
+
+pub rising-keep : (f : Request → Bool) (n : ℕ) (rs : List Request) → Rising n rs → Rising n (keep f rs)
+rising-keep f n [] t = tt
+rising-keep f n (r ∷ rs) t =
+    cond-elim (Rising n) (f r) (r ∷ keep f rs) (keep f rs) (λ b. (t .0, rising-keep f (r .serial) rs (t .1)))
+    (λ b. rising-keep f n rs (rising-weak (r .serial) n rs (let k = t .0 in omega arith) (t .1)))
+
+pub rising-append : (n m : ℕ) (rs : List Request) (q : Request) → Rising n rs → ((r : Request) → In r rs → r .serial ≤ m) → n ≤ m → m < q .serial → Rising n (rs ++ (q ∷ []))
+rising-append n m [] q t b h k = (omega arith, tt)
+rising-append n m (r ∷ rs) q t b h k = (t .0, rising-append (r .serial) m rs q (t .1) (λ x i. b x (there i)) (b r here) k)
+
+pub rising-above : (n : ℕ) (rs : List Request) → Rising n rs → (r : Request) → In r rs → n < r .serial
+rising-above n (q ∷ rs) t r here = t .0
+rising-above n (q ∷ rs) t r (there i) = let a = t .0 in let b = rising-above (q .serial) rs (t .1) r i in omega arith
+
+-- a serial names one request
+pub same-request : (n : ℕ) (rs : List Request) → Rising n rs → (r q : Request) → In r rs → In q rs → r .serial ≡ q .serial → r ≡ q
+same-request n (x ∷ rs) t r q here here e = refl
+same-request n (x ∷ rs) t r q here (there j) e = let a = rising-above (x .serial) rs (t .1) q j in absurd (omega arith)
+same-request n (x ∷ rs) t r q (there i) here e = let a = rising-above (x .serial) rs (t .1) r i in absurd (omega arith)
+same-request n (x ∷ rs) t r q (there i) (there j) e = same-request (x .serial) rs (t .1) r q i j e

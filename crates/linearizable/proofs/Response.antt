@@ -1,0 +1,183 @@
+-- The fourth and fifth sorts of change: a guard is granted to a player, and a result is cached (step 7, once the request has left).
+-- Assumes nothing.
+use mathlib.Core.Path.{_≡_, refl, sym, _∙_, ap, subst}
+use mathlib.Core.Logic.{_≢_, _⊎_, inl, inr}
+use mathlib.Core.Bool.{true}
+use Prim.Native.Nat.{ℕ, _≤_, _<_}
+use native.Mathlib.Omega.{arith}
+use Rattle.store.specs.Model.{fill, put}
+use Rattle.requests.specs.declared.Request.{Request}
+use Rattle.players.specs.Rules.{Cached, State, Player, grant, with-cached}
+use Rattle.linearizable.proofs.Facts.{In, put-elim, fill-elim}
+use Rattle.linearizable.proofs.Invariant.{Inv, Live, GuardRequestOf, Clear, WouldCommit, CachedOk, Unused, Told, Fresh}
+
+-- A guard granted
+
+pub record Grantable (s : State) (p lo hi n : ℕ) : Type 0 where
+  pub issued : n ≤ s .last
+  pub unused : Unused s n
+  pub request : (r : Request) → In r (s .requests) → r .kind ≡ 3 → r .serial ≢ n
+  pub requested : (r : Request) (e : ℕ) → In r (s .requests) → GuardRequestOf r p e → lo ≤ e → e < hi → ⊥
+  pub still : (w : Request) (e : ℕ) → In w (s .requests) → lo ≤ e → e < hi → WouldCommit s w e → ⊥
+
+-- a guard g of player q at entry e is as before, or it is the one granted
+record Granted (p lo hi n q e g : ℕ) : Type 0 where
+  player : q ≡ p
+  low : lo ≤ e
+  high : e < hi
+  guard : g ≡ n
+
+abbrev GrantCase : State → ℕ → ℕ → ℕ → ℕ → ℕ → ℕ → Type 0
+GrantCase s p lo hi n q e = (grant s p lo hi n .player q .held e ≡ s .player q .held e) ⊎ Granted p lo hi n q e (grant s p lo hi n .player q .held e)
+
+grant-case : (s : State) (p lo hi n q e : ℕ) → GrantCase s p lo hi n q e
+grant-case s p lo hi n q e =
+    put-elim (λ (x : Player). (x .held e ≡ s .player q .held e) ⊎ Granted p lo hi n q e (x .held e)) p (record { held = fill lo hi n (s .player p .held); cached = s .player p .cached }) (s .player) q
+    (λ z. fill-elim (λ (g : ℕ). (g ≡ s .player q .held e) ⊎ Granted p lo hi n q e g) lo hi n (s .player p .held) e (λ a b. inr (record { player = z; low = a; high = b; guard = refl })) (inl (ap (λ (x : ℕ). s .player x .held e) (sym z))))
+    (λ z. inl refl)
+
+grant-cached : (s : State) (p lo hi n q e : ℕ) → grant s p lo hi n .player q .cached e ≡ s .player q .cached e
+grant-cached s p lo hi n q e =
+    put-elim (λ (x : Player). x .cached e ≡ s .player q .cached e) p (record { held = fill lo hi n (s .player p .held); cached = s .player p .cached }) (s .player) q
+    (λ z. ap (λ (x : ℕ). s .player x .cached e) (sym z))
+    (λ z. refl)
+
+module _ (s : State) (p lo hi n : ℕ) (i : Inv s) (v : Grantable s p lo hi n) where
+  g-would-commit : (w : Request) (e : ℕ) → WouldCommit (grant s p lo hi n) w e → WouldCommit s w e
+  g-would-commit w e a = record { kind = a .kind; low = a .low; away = a .away; guard = a .guard }
+
+  g-live : (q e : ℕ) → grant s p lo hi n .player q .held e ≡ s .player q .held e → Live (grant s p lo hi n) q e → Live s q e
+  g-live q e g l = let k = l .epoch in record { set = λ z. l .set (g ∙ z); owner = l .owner; epoch = omega arith }
+
+  g-guards : (q e : ℕ) → GrantCase s p lo hi n q e → grant s p lo hi n .player q .held e ≤ s .last
+  g-guards q e (inl g) = let b = i .guards q e in omega arith
+  g-guards q e (inr g) = let b = v .issued in let h = g .guard in omega arith
+
+  g-requested : (r : Request) (q e : ℕ) → In r (s .requests) → GuardRequestOf r q e → GrantCase s p lo hi n q e → grant s p lo hi n .player q .held e ≡ 0
+  g-requested r q e m a (inl g) = g ∙ i .requested r q e m a
+  g-requested r q e m a (inr g) =
+      absurd (v .requested r e m (record { kind = a .kind; player = a .player ∙ g .player; low = a .low; high = a .high; pending = a .pending }) (g .low) (g .high))
+
+  g-unused-guard : (r : Request) (q e : ℕ) → In r (s .requests) → r .kind ≡ 3 → GrantCase s p lo hi n q e → grant s p lo hi n .player q .held e ≢ r .serial
+  g-unused-guard r q e m k (inl g) z = i .unused r m k .guard q e (sym g ∙ z)
+  g-unused-guard r q e m k (inr g) z = v .request r m k (sym z ∙ g .guard)
+
+  g-owner : (w : Request) (q e : ℕ) → In w (s .requests) → Live (grant s p lo hi n) q e → WouldCommit s w e → GrantCase s p lo hi n q e → (w .player ≡ q) × (w .guard ≡ grant s p lo hi n .player q .held e)
+  g-owner w q e m l a (inl g) = let k = i .by-owner w q e m (g-live q e g l) a in (k .0, k .1 ∙ sym g)
+  g-owner w q e m l a (inr g) = absurd (v .still w e m (g .low) (g .high) a)
+
+  g-dropped : (w : Request) (q e : ℕ) → In w (s .requests) → w .kind ≡ 5 → w .player ≡ q → w .abandoned ≡ true → GrantCase s p lo hi n q e → grant s p lo hi n .player q .held e ≢ w .guard
+  g-dropped w q e m k h d (inl g) z = i .dropped w q e m k h d (sym g ∙ z)
+  g-dropped w q e m k h d (inr g) z = v .unused .request w m (sym z ∙ g .guard)
+
+  g-told : (r : Request) (q e : ℕ) → In r (s .requests) → Clear r q e → r .delivered ≡ true → r .guard ≡ grant s p lo hi n .player q .held e → Live (grant s p lo hi n) q e → GrantCase s p lo hi n q e → Told (grant s p lo hi n) r e
+  g-told r q e m c a h l (inl g) =
+      let k = i .told r q e m c a (h ∙ g) (g-live q e g l) in
+      record { read-version = k .read-version; read-value = k .read-value; write-version = k .write-version; write-value = k .write-value }
+  g-told r q e m c a h l (inr g) = absurd (v .unused .request r m (h ∙ g .guard))
+
+  g-cached : (q e : ℕ) → s .player q .cached e .guard ≡ grant s p lo hi n .player q .held e → Live (grant s p lo hi n) q e → GrantCase s p lo hi n q e → Fresh (grant s p lo hi n) (s .player q .cached e) e
+  g-cached q e h l (inl g) =
+      let k = i .cached q e (h ∙ g) (g-live q e g l) in
+      record { version = k .version; value = k .value; still = λ w m a. k .still w m (g-would-commit w e a) }
+  g-cached q e h l (inr g) = absurd (v .unused .cached q e (h ∙ g .guard))
+
+  pub grant-keeps : Inv (grant s p lo hi n)
+  grant-keeps =
+      record {
+        rising = i .rising;
+        request = i .request;
+        guards = λ q e. g-guards q e (grant-case s p lo hi n q e);
+        caches = λ q e. subst (CachedOk (s .last)) (sym (grant-cached s p lo hi n q e)) (i .caches q e);
+        entry = λ e. let k = i .entry e in record { epoch = k .epoch; guard = k .guard; version = k .version };
+        requested = λ r q e m a. g-requested r q e m a (grant-case s p lo hi n q e);
+        apart = i .apart;
+        settled = λ r w q e m j a b c o d z. i .settled r w q e m j a b c o d (g-would-commit w e z);
+        unused = λ r m k.
+            let u = i .unused r m k in
+            record {
+              guard = λ q e. g-unused-guard r q e m k (grant-case s p lo hi n q e);
+              cached = λ q e z. u .cached q e (ap (λ (c : Cached). c .guard) (sym (grant-cached s p lo hi n q e)) ∙ z);
+              request = u .request;
+            };
+        unset = i .unset;
+        by-owner = λ w q e m l a. g-owner w q e m l (g-would-commit w e a) (grant-case s p lo hi n q e);
+        alone = i .alone;
+        dropped = λ w q e m k h d. g-dropped w q e m k h d (grant-case s p lo hi n q e);
+        told = λ r q e m c a h l. g-told r q e m c a h l (grant-case s p lo hi n q e);
+        cached = λ q e h l.
+            let z = grant-cached s p lo hi n q e in
+            subst (λ (c : Cached). Fresh (grant s p lo hi n) c e) (sym z) (g-cached q e (ap (λ (c : Cached). c .guard) (sym z) ∙ h) l (grant-case s p lo hi n q e));
+      }
+
+-- A result cached
+
+pub record Worthy (s : State) (p x : ℕ) (c : Cached) : Type 0 where
+  pub ok : CachedOk (s .last) c
+  pub request : (r : Request) → In r (s .requests) → r .kind ≡ 3 → c .guard ≢ r .serial
+  pub fresh : Fresh s c x
+
+-- a cached result d of player q at entry e is as before, or it is the one cached
+abbrev CachedCase : State → ℕ → ℕ → Cached → ℕ → ℕ → Cached → Type 0
+CachedCase s p x c q e d = (d ≡ s .player q .cached e) ⊎ ((e ≡ x) × (d ≡ c))
+
+cached-case : (s : State) (p x : ℕ) (c : Cached) (q e : ℕ) → CachedCase s p x c q e (with-cached s p x c .player q .cached e)
+cached-case s p x c q e =
+    put-elim (λ (y : Player). CachedCase s p x c q e (y .cached e)) p (record { held = s .player p .held; cached = put x c (s .player p .cached) }) (s .player) q
+    (λ z. put-elim (λ (d : Cached). CachedCase s p x c q e d) x c (s .player p .cached) e (λ y. inr (y, refl)) (λ y. inl (ap (λ (k : ℕ). s .player k .cached e) (sym z))))
+    (λ z. inl refl)
+
+pub with-cached-held : (s : State) (p x : ℕ) (c : Cached) (q e : ℕ) → with-cached s p x c .player q .held e ≡ s .player q .held e
+with-cached-held s p x c q e =
+    put-elim (λ (y : Player). y .held e ≡ s .player q .held e) p (record { held = s .player p .held; cached = put x c (s .player p .cached) }) (s .player) q
+    (λ z. ap (λ (k : ℕ). s .player k .held e) (sym z))
+    (λ z. refl)
+
+module _ (s : State) (p x : ℕ) (c : Cached) (i : Inv s) (v : Worthy s p x c) where
+  m-would-commit : (w : Request) (e : ℕ) → WouldCommit (with-cached s p x c) w e → WouldCommit s w e
+  m-would-commit w e a = record { kind = a .kind; low = a .low; away = a .away; guard = a .guard }
+
+  m-live : (q e : ℕ) → Live (with-cached s p x c) q e → Live s q e
+  m-live q e l =
+      let g = with-cached-held s p x c q e in
+      let k = l .epoch in
+      record { set = λ z. l .set (g ∙ z); owner = l .owner; epoch = omega arith }
+
+  m-caches : (q e : ℕ) (d : Cached) → CachedCase s p x c q e d → CachedOk (s .last) d
+  m-caches q e d (inl z) = subst (CachedOk (s .last)) (sym z) (i .caches q e)
+  m-caches q e d (inr z) = subst (CachedOk (s .last)) (sym (z .1)) (v .ok)
+
+  m-unused : (r : Request) → In r (s .requests) → r .kind ≡ 3 → (q e : ℕ) (d : Cached) → CachedCase s p x c q e d → d .guard ≢ r .serial
+  m-unused r m k q e d (inl z) h = i .unused r m k .cached q e (ap (λ (y : Cached). y .guard) (sym z) ∙ h)
+  m-unused r m k q e d (inr z) h = v .request r m k (ap (λ (y : Cached). y .guard) (sym (z .1)) ∙ h)
+
+  m-cached : (q e : ℕ) (d : Cached) → CachedCase s p x c q e d → d .guard ≡ s .player q .held e → Live s q e → Fresh s d e
+  m-cached q e d (inl z) h l =
+      subst (λ (y : Cached). Fresh s y e) (sym z) (i .cached q e (ap (λ (y : Cached). y .guard) (sym z) ∙ h) l)
+  m-cached q e d (inr z) h l = subst (λ (y : Cached). Fresh s y e) (sym (z .1)) (subst (Fresh s c) (sym (z .0)) (v .fresh))
+
+  pub with-cached-keeps : Inv (with-cached s p x c)
+  with-cached-keeps =
+      record {
+        rising = i .rising;
+        request = i .request;
+        guards = λ q e. let g = with-cached-held s p x c q e in let b = i .guards q e in omega arith;
+        caches = λ q e. m-caches q e (with-cached s p x c .player q .cached e) (cached-case s p x c q e);
+        entry = λ e. let k = i .entry e in record { epoch = k .epoch; guard = k .guard; version = k .version };
+        requested = λ r q e m a. with-cached-held s p x c q e ∙ i .requested r q e m a;
+        apart = i .apart;
+        settled = λ r w q e m j a b o u d z. i .settled r w q e m j a b o u d (m-would-commit w e z);
+        unused = λ r m k.
+            let u = i .unused r m k in
+            record { guard = λ q e z. u .guard q e (sym (with-cached-held s p x c q e) ∙ z); cached = λ q e. m-unused r m k q e (with-cached s p x c .player q .cached e) (cached-case s p x c q e); request = u .request };
+        unset = i .unset;
+        by-owner = λ w q e m l a. let k = i .by-owner w q e m (m-live q e l) (m-would-commit w e a) in (k .0, k .1 ∙ sym (with-cached-held s p x c q e));
+        alone = i .alone;
+        dropped = λ w q e m k h d z. i .dropped w q e m k h d (sym (with-cached-held s p x c q e) ∙ z);
+        told = λ r q e m y a h l.
+            let k = i .told r q e m y a (h ∙ with-cached-held s p x c q e) (m-live q e l) in
+            record { read-version = k .read-version; read-value = k .read-value; write-version = k .write-version; write-value = k .write-value };
+        cached = λ q e h l.
+            let k = m-cached q e (with-cached s p x c .player q .cached e) (cached-case s p x c q e) (h ∙ with-cached-held s p x c q e) (m-live q e l) in
+            record { version = k .version; value = k .value; still = λ w m a. k .still w m (m-would-commit w e a) };
+      }

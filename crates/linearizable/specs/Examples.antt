@@ -1,0 +1,164 @@
+-- The ledger and the claim tried by computation, and wrong models that the claim rejects.
+-- Assumes nothing.
+use mathlib.Core.Path.{_≡_, refl, ap}
+use mathlib.Core.Bool.{true, false, cond, _&&_}
+use mathlib.Core.List.{List, [], _∷_, map}
+use mathlib.Core.Logic.{inl, inr}
+use Prim.Native.Nat.{ℕ}
+use native.Mathlib.Omega.{arith}
+use Rattle.store.specs.Model.{Store, unbroken, tablet-first, tablet-end}
+use Rattle.store.specs.declared.Reply.{Reply}
+use Rattle.players.specs.declared.Step.{Step}
+use Rattle.players.specs.declared.Step.the-variants.{Assign, Release, RequestGuard, Read, Write, Deliver, Respond, Abandon, Lose, Split, Merge, RestartTablet, RestartPlayer}
+use Rattle.requests.specs.declared.Request.{Request}
+use Rattle.players.specs.Replies.{cache-read, store-read, committed}
+use Rattle.requests.specs.Model.{is-read, is-write, mark-delivered}
+use Rattle.players.specs.Rules.{State, Result, step, fresh, with-requests}
+use Rattle.players.specs.Cases.{range, session}
+use Rattle.linearizable.specs.Ledger.{Event, event, numbered, from-cache, item, ledger}
+use Rattle.linearizable.specs.History.{history}
+use Rattle.linearizable.specs.Claim.{linearization, abandoned, AnsweredRead, Linear, last-one, not-last}
+
+-- the document's session: write 3 is delayed past the granting of guard 5 and rejected; step 14 reads from the cache
+session-order : linearization (history session) ≡ item (from-cache 13) false 45 0 0 13 ∷ item (numbered 6) false 45 0 0 10 ∷ []
+unfolding unbroken tablet-first tablet-end
+session-order = refl
+
+session-guards : ledger (history session) .store .guard 45 ≡ 5
+unfolding unbroken tablet-first tablet-end
+session-guards = refl
+
+-- a write abandoned before it is delivered takes effect later, and a read sees it; read 4 has no answer and is struck out
+abbrev late : List Step
+late = Assign 0 (range 0 9) ∷ RequestGuard 0 (range 0 9) ∷ Deliver 2 ∷ Respond 2 ∷ Write 0 1 7 ∷ Abandon 3 ∷ Read 0 1 ∷ Deliver 4 ∷ Read 0 1 ∷ Deliver 3 ∷ Deliver 5 ∷ Respond 5 ∷ []
+
+late-order : linearization (history late) ≡ item (numbered 5) false 1 3 7 10 ∷ item (numbered 3) true 1 3 7 9 ∷ []
+unfolding unbroken tablet-first tablet-end
+late-order = refl
+
+late-abandoned : abandoned (history late) 3 ≡ true
+unfolding unbroken tablet-first tablet-end
+late-abandoned = refl
+
+-- a write in flight when its player starts anew is abandoned; the reads of other players are not
+abbrev anew : List Step
+anew = Assign 0 (range 0 9) ∷ RequestGuard 0 (range 0 9) ∷ Deliver 2 ∷ Respond 2 ∷ Write 0 1 7 ∷ Read 1 1 ∷ RestartPlayer 0 ∷ []
+
+anew-abandoned : abandoned (history anew) 3 ≡ true
+unfolding unbroken tablet-first tablet-end
+anew-abandoned = refl
+
+anew-not-abandoned : abandoned (history anew) 4 ≡ false
+unfolding unbroken tablet-first tablet-end
+anew-not-abandoned = refl
+
+-- a write committed and cached, then read from the cache
+abbrev own : List Step
+own = Assign 0 (range 0 9) ∷ RequestGuard 0 (range 0 9) ∷ Deliver 2 ∷ Respond 2 ∷ Write 0 1 7 ∷ Deliver 3 ∷ Respond 3 ∷ Read 0 1 ∷ []
+
+own-order : linearization (history own) ≡ item (from-cache 7) false 1 3 7 7 ∷ item (numbered 3) true 1 3 7 5 ∷ []
+unfolding unbroken tablet-first tablet-end
+own-order = refl
+
+-- Wrong models: each follows the rules, and then spoils what a step left. The claim rejects each of them.
+
+-- the history of a model that does `spoil` after each step; `spoil` gets the state before, the step and its result
+abbrev spoiled : (State → Step → Result → Result) → State → List Event → List Step → List Event
+spoiled spoil s past [] = past
+spoiled spoil s past (x ∷ xs) = let r = spoil s x (step s x) in spoiled spoil (r .state) (event x (r .reply) ∷ past) xs
+
+abbrev not-overlapped : Request → Request
+not-overlapped r =
+    record { serial = r .serial; player = r .player; kind = r .kind; low = r .low; high = r .high; value = r .value; guard = r .guard; overlapped = false; delivered = r .delivered; abandoned = r .abandoned; first = r .first; second = r .second }
+
+-- no request is ever overlapped
+abbrev no-overlap : State → Step → Result → Result
+no-overlap s x r = record { state = with-requests (r .state) (map not-overlapped (r .state .requests)); reply = r .reply }
+
+-- epochs are not kept: whoever owns an entry may use any guard it was ever given
+abbrev no-epoch : State → Step → Result → Result
+no-epoch s x r =
+    record { state = record { last = r .state .last; owners = record { owner = r .state .owners .owner; epoch = λ e. 0 }; store = r .state .store; player = r .state .player; requests = r .state .requests }; reply = r .reply }
+
+-- players keep their guards when they abandon
+abbrev kept-guards : State → Step → Result → Result
+kept-guards s (Assign p g) r = r
+kept-guards s (Release g) r = r
+kept-guards s (RequestGuard p g) r = r
+kept-guards s (Read p e) r = r
+kept-guards s (Write p e v) r = r
+kept-guards s (Deliver n) r = r
+kept-guards s (Respond n) r = r
+kept-guards s (Abandon n) r = record { state = record { last = r .state .last; owners = r .state .owners; store = r .state .store; player = s .player; requests = r .state .requests }; reply = r .reply }
+kept-guards s (Lose n) r = r
+kept-guards s (Split e) r = r
+kept-guards s (Merge e) r = r
+kept-guards s (RestartTablet e) r = r
+kept-guards s (RestartPlayer p) r = r
+
+-- every write that is delivered commits
+abbrev all-commit : State → Step → Result → Result
+all-commit s x r = record { state = with-requests (r .state) (map (λ w. cond (is-write w && w .delivered) (mark-delivered 1 0 w) w) (r .state .requests)); reply = r .reply }
+
+-- reads give zeros, whatever the store holds
+abbrev zero-reads : State → Step → Result → Result
+zero-reads s x r = record { state = with-requests (r .state) (map (λ w. cond (is-read w && w .delivered) (mark-delivered 0 0 w) w) (r .state .requests)); reply = r .reply }
+
+-- steps after guard 2 is granted to player 0 over 0 to 9
+abbrev once-granted : List Step → List Step
+once-granted xs = Assign 0 (range 0 9) ∷ RequestGuard 0 (range 0 9) ∷ Deliver 2 ∷ Respond 2 ∷ xs
+
+-- a read begun while a write is pending, and then cached
+abbrev read-crossed : List Step
+read-crossed = once-granted (Write 0 1 7 ∷ Read 0 1 ∷ Deliver 4 ∷ Deliver 3 ∷ Respond 4 ∷ Read 0 1 ∷ [])
+
+read-crossed-is-rejected : (st : Store) → Linear (spoiled no-overlap fresh [] read-crossed) st → ⊥
+unfolding unbroken tablet-first tablet-end
+read-crossed-is-rejected st c = let z : _≡_ {A = ℕ} 0 3 = c .cache-gave-what-store-held 0 1 (cache-read 0 0) _ last-one refl .0 in omega arith
+
+-- a write's answer cached though a second write crossed it
+abbrev write-crossed : List Step
+write-crossed = once-granted (Write 0 1 7 ∷ Write 0 1 8 ∷ Deliver 3 ∷ Deliver 4 ∷ Respond 3 ∷ Read 0 1 ∷ [])
+
+write-crossed-is-rejected : (st : Store) → Linear (spoiled no-overlap fresh [] write-crossed) st → ⊥
+unfolding unbroken tablet-first tablet-end
+write-crossed-is-rejected st c = let z : _≡_ {A = ℕ} 3 4 = c .cache-gave-what-store-held 0 1 (cache-read 3 7) _ last-one refl .0 in omega arith
+
+-- a guard granted late to a player that lost the range and has it back, while a write of the owner between is under way
+abbrev late-grant : List Step
+late-grant = Assign 0 (range 0 9) ∷ RequestGuard 0 (range 0 9) ∷ Deliver 2 ∷ Assign 1 (range 0 9) ∷ RequestGuard 1 (range 0 9) ∷ Deliver 4 ∷ Respond 4 ∷ Write 1 1 7 ∷ Assign 0 (range 0 9) ∷ Respond 2 ∷ Read 0 1 ∷ Deliver 7 ∷ Respond 7 ∷ Deliver 5 ∷ Read 0 1 ∷ []
+
+late-grant-is-rejected : (st : Store) → Linear (spoiled no-epoch fresh [] late-grant) st → ⊥
+unfolding unbroken tablet-first tablet-end
+late-grant-is-rejected st c = let z : _≡_ {A = ℕ} 0 5 = c .cache-gave-what-store-held 0 1 (cache-read 0 0) _ last-one refl .0 in omega arith
+
+-- guards left after an abandoned write
+abbrev abandoned-write : List Step
+abandoned-write = once-granted (Write 0 1 7 ∷ Abandon 3 ∷ Read 0 1 ∷ Deliver 4 ∷ Respond 4 ∷ Deliver 3 ∷ Read 0 1 ∷ [])
+
+abandoned-write-is-rejected : (st : Store) → Linear (spoiled kept-guards fresh [] abandoned-write) st → ⊥
+unfolding unbroken tablet-first tablet-end
+abandoned-write-is-rejected st c = let z : _≡_ {A = ℕ} 0 3 = c .cache-gave-what-store-held 0 1 (cache-read 0 0) _ last-one refl .0 in omega arith
+
+-- a write rejected, yet answered as committed: its reply is 4, and it does not stand in the order
+abbrev stale-write : List Step
+stale-write = once-granted (Write 0 1 7 ∷ RestartTablet 0 ∷ Deliver 3 ∷ Respond 3 ∷ [])
+
+stale-write-is-rejected : (st : Store) → Linear (spoiled all-commit fresh [] stale-write) st → ⊥
+unfolding unbroken tablet-first tablet-end
+stale-write-is-rejected st c =
+    elim (c .answered-writes 3 1 7 (committed 3 7) (record { begun = _; begins = (_, not-last (not-last (not-last last-one)), refl); ended = _; responds = (_, last-one, refl) })) [
+      | inl z ↦ let y : _≡_ {A = ℕ} 0 1 = z .1 in omega arith
+      | inr z ↦ let y : _≡_ {A = ℕ} 4 5 = ap (λ (r : Reply). r .code) (z .0) in omega arith
+    ]
+
+-- a read that begins after a write was answered, and misses it
+abbrev missed : List Step
+missed = once-granted (Write 0 1 7 ∷ Deliver 3 ∷ Respond 3 ∷ Read 1 1 ∷ Deliver 4 ∷ Respond 4 ∷ [])
+
+missed-is-rejected : (st : Store) → Linear (spoiled zero-reads fresh [] missed) st → ⊥
+unfolding unbroken tablet-first tablet-end
+missed-is-rejected st c =
+    let x : AnsweredRead (spoiled zero-reads fresh [] missed) (numbered 4) 1 (store-read 0 0) = record { begun = _; begins = (_, not-last (not-last last-one), refl); ended = _; responds = (_, last-one, refl) } in
+    let z : _≡_ {A = ℕ} 0 3 = c .reads-gave-last-write-ahead (numbered 4) 1 (store-read 0 0) (item (numbered 4) false 1 3 7 8) (item (numbered 3) true 1 3 7 5 ∷ []) x last-one refl .0 in
+    omega arith
