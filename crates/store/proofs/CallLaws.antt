@@ -7,12 +7,12 @@ use Prim.Native.Nat.{ℕ, _+_, _-_, _≤_, _<_}
 use native.Mathlib.Omega.{arith}
 use native.Mathlib.Nat.{zero-add}
 use lib.Dec.{T, eqb}
-use lib.ListN.{length, getD, set, take, drop, replicate, length-set}
+use lib.ListN.{length, getD, set, take, drop, length-set}
 use lib.Seq.{ext-getD, getD-set-same, getD-set-other}
 use mathlib.Core.Logic.{⊎-elim}
 use borrow.Author.Tests.{eq-eqb, ne-eqb, le-leb, lt-leb, lt-ltb, le-ltb, eqb-true, eqb-false}
-use Rattle.store.specs.Model.{Store, serials, fresh, put, unbroken, tablet-first, tablet-end, guarded, committed, with-boundary}
-use Rattle.store.specs.Table.{part, seek, guardAt, storeOf, listed, runs, coded, tableOf, valid}
+use Rattle.store.specs.Model.{Store, serials, put, unbroken, tablet-first, tablet-end, guarded, committed, with-boundary}
+use Rattle.store.specs.Table.{part, seek, guardAt, storeOf, listed, tableOf, valid}
 use Rattle.store.specs.Walk.{rebuilt}
 use Rattle.store.specs.Calls.{said, Result, result, refusal, bad-serial, Done, done, encoded, checked, called, Steps, install, read, commit, split, merge, restart}
 use Rattle.store.specs.declared.Reply.{Reply}
@@ -220,9 +220,3 @@ module _ (t : List ℕ) (r : Reply) (e : r ≡ checked serials t) where
 
     pub good-serial : (n ≡ 0 → ⊥) → n ≤ serials → (a : Reply) (t′ : List ℕ) → Steps g t a t′ → done a t′ ≡ called guarded-call t
     good-serial h k a t′ s = rw (ne-eqb n 0 h, le-ltb serials n k) (finished z g a t′ s)
-
--- ---- a fresh table
-
-pub fresh-table : tableOf fresh ≡ set (replicate 1280 0) 0 1
-unfolding tableOf listed coded runs
-fresh-table = refl
