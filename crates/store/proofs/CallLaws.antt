@@ -17,7 +17,7 @@ use Rattle.store.specs.Walk.{rebuilt}
 use Rattle.store.specs.Calls.{said, Result, result, refusal, bad-serial, Done, done, encoded, checked, called, Steps, install, read, commit, split, merge, restart}
 use Rattle.store.specs.declared.Reply.{Reply}
 use Rattle.store.specs.declared.Range.{Range}
-use Rattle.store.proofs.Intervals.{decide}
+use Rattle.store.proofs.Bools.{decide}
 use Rattle.store.proofs.Lists.{length-listed, getD-listed}
 use Rattle.store.proofs.Parts.{part-at, part-set, part-set-below, part-set-above, same-parts}
 use Rattle.store.proofs.Tables.{table-parts, valid-parts, table-store}
@@ -212,11 +212,8 @@ module _ (t : List ℕ) (r : Reply) (e : r ≡ checked serials t) where
     abbrev pub guarded-call : Store → Result
     guarded-call st = cond (bad-serial n) (refusal 28 st) (g st)
 
-    pub no-serial : n ≡ 0 → done (said 28 0 0) t ≡ called guarded-call t
-    no-serial h = declined z guarded-call (said 28 0 0) (rw (eq-eqb n 0 h))
+    pub wrong-serial : bad-serial n ≡ true → done (said 28 0 0) t ≡ called guarded-call t
+    wrong-serial h = declined z guarded-call (said 28 0 0) (rw h)
 
-    pub late-serial : (n ≡ 0 → ⊥) → serials < n → done (said 28 0 0) t ≡ called guarded-call t
-    late-serial h k = declined z guarded-call (said 28 0 0) (rw (ne-eqb n 0 h, lt-ltb serials n k))
-
-    pub good-serial : (n ≡ 0 → ⊥) → n ≤ serials → (a : Reply) (t′ : List ℕ) → Steps g t a t′ → done a t′ ≡ called guarded-call t
-    good-serial h k a t′ s = rw (ne-eqb n 0 h, le-ltb serials n k) (finished z g a t′ s)
+    pub good-serial : bad-serial n ≡ false → (a : Reply) (t′ : List ℕ) → Steps g t a t′ → done a t′ ≡ called guarded-call t
+    good-serial h a t′ s = rw h (finished z g a t′ s)
