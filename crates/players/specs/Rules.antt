@@ -14,29 +14,33 @@ use Rattle.requests.specs.declared.Request.{Request}
 use Rattle.requests.specs.Model.{places, is-guard-request, is-read, is-write, serial-is, by, pending, requesting, writing, using-entry, new-request, mark-overlapped, mark-abandoned, mark-delivered, any, keep, find, drop-request, change-request}
 use Rattle.players.specs.Replies.{done, issued, cache-read, store-read, committed, rejected, granted, not-held, layout-changed, refusal, out-of-range, not-owner, no-live-guard, already-requested, no-such-request, no-place-left, no-serial-left, wrong-boundary}
 
--- ---- the state
+-- ---- the house: ‘The tables hold’
 
--- for each entry its owner, 8 for nobody, and the serial of the last assignment or release over it (document: period)
+-- ‘eight players (0 to 7)’
+abbrev pub players : ℕ
+players = 8
+
+-- ‘for each entry its owner (0 to 7, or 8 for nobody) and period, the serial of the last assignment or release over it’; here the period is the epoch
 pub record Owners : Type 0 where
   pub owner : ℕ → ℕ
   pub epoch : ℕ → ℕ
 
--- a cached read result (document: remembered cell); guard 0 means empty, and then all is 0
+-- ‘a remembered cell (guard, stamp, value)’
 pub record Cached : Type 0 where
   pub guard : ℕ
   pub version : ℕ
   pub value : ℕ
 
--- nothing is cached
+-- ‘guard 0 meaning empty and then all zeros’
 abbrev pub empty : Cached
 empty = record { guard = 0; version = 0; value = 0 }
 
--- what a player has for each entry: the guard that it holds (document: the player's guard), and what it has cached
+-- ‘for each player and entry a guard, and a remembered cell’
 pub record Player : Type 0 where
   pub held : ℕ → ℕ
   pub cached : ℕ → Cached
 
--- `last`: the last serial issued; `requests`: those in flight, in rising serial (document: rows)
+-- ‘One count of serials’ (`last`); owners; borders, guards, stamps and values (`store`); the players; the ‘rows in flight, in rising serial’ (`requests`)
 pub record State : Type 0 where
   pub last : ℕ
   pub owners : Owners
@@ -44,23 +48,19 @@ pub record State : Type 0 where
   pub player : ℕ → Player
   pub requests : List Request
 
--- the state after a step, and the reply
+-- the state after a step, and its reply
 pub record Result : Type 0 where
   pub state : State
   pub reply : Reply
 
--- a player that holds no guard
+-- a player without guards and with empty cells
 abbrev pub fresh-player : Player
 fresh-player = record { held = λ e. 0; cached = λ e. empty }
 
--- nobody owns anything, one tablet, guard 0 everywhere, zeros elsewhere
+-- ‘Fresh tables have owner 8, one tablet, guard 0 everywhere, and zeros elsewhere’
 abbrev pub fresh : State
 fresh =
     record { last = 0; owners = record { owner = λ e. 8; epoch = λ e. 0 }; store = fresh-store; player = λ p. fresh-player; requests = [] }
-
--- how many players there are
-abbrev pub players : ℕ
-players = 8
 
 -- ---- a state with one part set anew
 
@@ -80,14 +80,14 @@ with-player s p pl = record { last = s .last; owners = s .owners; store = s .sto
 abbrev pub issue : State → State
 issue s = record { last = s .last + 1; owners = s .owners; store = s .store; player = s .player; requests = s .requests }
 
--- ---- tests
+-- ---- tests of entries
 
 -- the test holds of each number from lo up to, not including, lo + n
 abbrev pub every : ℕ → ℕ → (ℕ → Bool) → Bool
 every lo zero f = true
 every lo (suc n) f = f lo && every (suc lo) n f
 
--- the test holds of each entry of a range
+-- ‘every entry of the range’, from low up to, not including, high
 abbrev pub all-entries : (ℕ → Bool) → ℕ → ℕ → Bool
 all-entries f lo hi = every lo (hi - lo) f
 
@@ -95,59 +95,38 @@ all-entries f lo hi = every lo (hi - lo) f
 abbrev pub owns : State → ℕ → ℕ → Bool
 owns s p e = eqb (s .owners .owner e) p
 
--- the player's guard for the entry is live
+-- ‘live when it is not 0, the player owns the entry, and the entry's period is below the guard’
 abbrev pub live : State → ℕ → ℕ → Bool
 live s p e =
     let g = s .player p .held e in
     not (eqb g 0) && (owns s p e && ltb (s .owners .epoch e) g)
 
--- ---- requests
+-- ---- ‘Clearing a guard empties that cell too’
 
--- the state once a request has left
-abbrev pub removed : State → Request → State
-removed s r = with-requests s (drop-request (r .serial) (s .requests))
-
--- ---- a player's guards, cleared each with what is cached under it
-
--- over a range
+-- the guards over a range
 abbrev pub cleared : ℕ → ℕ → Player → Player
 cleared lo hi pl = record { held = fill lo hi 0 (pl .held); cached = fill lo hi empty (pl .cached) }
 
--- those that are n
+-- the guards that are n, whatever the entry
 abbrev pub cleared-of : ℕ → Player → Player
 cleared-of n pl =
     record { held = λ e. cond (eqb (pl .held e) n) 0 (pl .held e); cached = λ e. cond (eqb (pl .held e) n) empty (pl .cached e) }
 
--- ---- refusals
-
--- the first test that passes gives its number, and the state stays as it was
-abbrev pub check : State → Bool → ℕ → Result → Result
-check s true n x = record { state = s; reply = refusal n }
-check s false n x = x
-
--- a serial is needed
-abbrev pub need-serial : State → Result → Result
-need-serial s x = check s (leb serials (s .last)) no-serial-left x
-
--- a place for a request is needed, and a serial
-abbrev pub need-place : State → Result → Result
-need-place s x = check s (leb places (length (s .requests))) no-place-left (need-serial s x)
-
--- what a step does to the request with serial n that it fits
-abbrev pub on-request : State → ℕ → (Request → Bool) → (Request → Result) → Result
-on-request s n f go = find (λ r. serial-is n r && f r) (s .requests) (record { state = s; reply = refusal no-such-request }) go
+-- the same for a player of a state
+abbrev pub drop-guard : State → ℕ → ℕ → State
+drop-guard s p n = with-player s p (cleared-of n (s .player p))
 
 -- ---- 1 assign, 2 release
 
--- a serial is taken; owner and epoch are set over the range
+-- ‘take a serial, set owner (8 for release) and period over the range’
 abbrev pub set-owner : State → ℕ → Range → Result
 set-owner s p g =
     let n = s .last + 1 in
     record { state = record { last = n; owners = record { owner = fill (g .low) (g .high) p (s .owners .owner); epoch = fill (g .low) (g .high) n (s .owners .epoch) }; store = s .store; player = s .player; requests = s .requests }; reply = issued n }
 
--- ---- 3 request a guard (document: ask for a guard)
+-- ---- 3 ask for a guard (here: request)
 
--- the player's guards over the range are cleared; the serial is the guard's number
+-- ‘Its guards there are cleared. The row's serial is the guard number’
 abbrev pub request-guard : State → ℕ → Range → Result
 request-guard s p g =
     let n = s .last + 1 in
@@ -155,18 +134,18 @@ request-guard s p g =
 
 -- ---- 4 read
 
--- what the player has cached for the entry may be read
+-- ‘if the cell is full, its guard equals the player's guard and that is live’
 abbrev pub cache-hit : State → ℕ → ℕ → Bool
 cache-hit s p e =
     let pl = s .player p in
     let c = pl .cached e in
     not (eqb (c .guard) 0) && (eqb (c .guard) (pl .held e) && live s p e)
 
--- nothing is altered
+-- ‘the reply comes from memory and nothing is altered’
 abbrev pub read-from-cache : State → ℕ → ℕ → Result
 read-from-cache s p e = record { state = s; reply = cache-read (s .player p .cached e .version) (s .player p .cached e .value) }
 
--- a request that carries the live guard or 0, overlapped if a write by the player on the entry is pending
+-- ‘Otherwise a row, carrying the live guard or 0, overlapped if a write by this player on this entry waits’
 abbrev pub read-from-store : State → ℕ → ℕ → Result
 read-from-store s p e =
     let n = s .last + 1 in
@@ -175,7 +154,7 @@ read-from-store s p e =
 
 -- ---- 5 write
 
--- what is cached is emptied; pending reads and writes by the player on the entry are overlapped, and it is itself if one is a write
+-- ‘Empties the cell; marks this player's waiting reads and writes on the entry overlapped; is itself overlapped if one of them was a write’; it carries the player's guard
 abbrev pub write : State → ℕ → ℕ → ℕ → Result
 write s p e v =
     let n = s .last + 1 in
@@ -184,23 +163,23 @@ write s p e v =
     let r = new-request n p 5 e 0 v (pl .held e) (any (writing p e) (s .requests)) in
     record { state = with-requests (with-player (issue s) p (record { held = pl .held; cached = put e empty (pl .cached) })) (marked ++ (r ∷ [])); reply = issued n }
 
--- ---- 6 deliver (document: arrive)
+-- ---- 6 arrive at the store (here: deliver)
 
--- the store after it, and the outcome; an abandoned request then leaves
+-- the store after it, and the outcome; ‘A given-up row then leaves’
 abbrev pub settled : State → Request → Store → ℕ → ℕ → Result
 settled s r st a b =
     record { state = with-requests (with-store s st) (cond (r .abandoned) (drop-request (r .serial) (s .requests)) (change-request (r .serial) (mark-delivered a b) (s .requests))); reply = done }
 
--- the guard is set over the range if that lies in one tablet
+-- ‘Guard request: if the range lies in one tablet the guard is set over it, else the outcome is "layout changed" and nothing is set’
 abbrev pub deliver-guard-request : State → Request → Result
 deliver-guard-request s r =
     cond (one-tablet (s .store) (r .low) (r .high)) (settled s r (guarded (s .store) (r .low) (r .high) (r .serial)) 1 0) (settled s r (s .store) 2 0)
 
--- the outcome is version and value
+-- ‘Read: outcome is stamp and value’
 abbrev pub deliver-read : State → Request → Result
 deliver-read s r = settled s r (s .store) (s .store .version (r .low)) (s .store .value (r .low))
 
--- it commits if the carried guard is the entry's, and not 0
+-- ‘Write: commits if the carried guard equals the entry's guard, which 0 never does, else is turned back’
 abbrev pub deliver-write : State → Request → Result
 deliver-write s r =
     cond (commits (s .store) (r .low) (r .guard)) (settled s r (write-committed (s .store) (r .low) (r .serial) (r .value)) 1 0) (settled s r (s .store) 2 0)
@@ -209,17 +188,21 @@ deliver-write s r =
 abbrev pub deliver : State → Request → Result
 deliver s r = cond (is-guard-request r) (deliver-guard-request s r) (cond (is-read r) (deliver-read s r) (deliver-write s r))
 
--- ---- 7 respond (document: answer)
+-- ---- 7 answer reaches the player (here: respond)
 
--- the player owns every entry of its guard request, each with an epoch below the serial
+-- ‘the row leaves’
+abbrev pub removed : State → Request → State
+removed s r = with-requests s (drop-request (r .serial) (s .requests))
+
+-- ‘Guard: if the player owns every entry with period below the serial’
 abbrev pub still-owned : State → Request → Bool
 still-owned s r = all-entries (λ e. owns s (r .player) e && ltb (s .owners .epoch e) (r .serial)) (r .low) (r .high)
 
--- the player's guards over a range become n
+-- ‘success sets its guards there’; the cells stay
 abbrev pub grant : State → ℕ → ℕ → ℕ → ℕ → State
 grant s p lo hi n = with-player s p (record { held = fill lo hi n (s .player p .held); cached = s .player p .cached })
 
--- not held if the player lost an entry since, whatever the outcome
+-- the above, ‘layout changed is said so; if not, "not held", whatever the outcome’
 abbrev pub respond-guard-request : State → Request → Result
 respond-guard-request s r =
     cond (still-owned s r)
@@ -228,29 +211,25 @@ respond-guard-request s r =
     (record { state = removed s r; reply = layout-changed (r .serial) }))
     (record { state = removed s r; reply = not-held (r .serial) })
 
--- the result of a read or write may be cached
+-- ‘if the carried guard is not 0, is the player's present guard, is live, and the row is not overlapped’
 abbrev pub may-cache : State → Request → Bool
 may-cache s r =
     not (eqb (r .guard) 0) && (eqb (r .guard) (s .player (r .player) .held (r .low)) && (live s (r .player) (r .low) && not (r .overlapped)))
 
--- what the player has cached for the entry becomes c
+-- the player's cell for the entry becomes c
 abbrev pub with-cached : State → ℕ → ℕ → Cached → State
 with-cached s p e c = with-player s p (record { held = s .player p .held; cached = put e c (s .player p .cached) })
 
--- the request leaves, and this version and value are cached if they may be (document: remembered)
+-- the request leaves, and this version and value are cached (‘remembered’) if they may be; if not, the cell stays as it is
 abbrev pub cache : State → Request → ℕ → ℕ → State
 cache s r version value =
     cond (may-cache s r) (with-cached (removed s r) (r .player) (r .low) (record { guard = r .guard; version = version; value = value })) (removed s r)
 
--- every guard of the player that is n is cleared
-abbrev pub drop-guard : State → ℕ → ℕ → State
-drop-guard s p n = with-player s p (cleared-of n (s .player p))
-
--- the outcome, cached if it may be
+-- ‘Read’: the outcome, remembered under that condition
 abbrev pub respond-read : State → Request → Result
 respond-read s r = record { state = cache s r (r .first) (r .second); reply = store-read (r .first) (r .second) }
 
--- committed, and cached if it may be; or rejected, and the carried guard is cleared
+-- ‘and write that committed’ likewise; ‘Write turned back: every entry where the player has that guard is cleared’
 abbrev pub respond-write : State → Request → Result
 respond-write s r =
     cond (eqb (r .first) 1)
@@ -261,40 +240,59 @@ respond-write s r =
 abbrev pub respond : State → Request → Result
 respond s r = cond (is-guard-request r) (respond-guard-request s r) (cond (is-read r) (respond-read s r) (respond-write s r))
 
--- ---- 8 abandon (document: give up), 9 lose
+-- ---- 8 give up (here: abandon), 9 lose
 
--- a delivered request leaves, another is marked; for a write the carried guard is cleared
+-- ‘an arrived row leaves, another is marked. For a write the clearing is the same’, arrived or not
 abbrev pub abandon : State → Request → Result
 abandon s r =
     let rs = cond (r .delivered) (drop-request (r .serial) (s .requests)) (change-request (r .serial) mark-abandoned (s .requests)) in
     let s′ = with-requests s rs in
     record { state = cond (is-write r) (drop-guard s′ (r .player) (r .guard)) s′; reply = done }
 
--- the request leaves
+-- ‘a given-up row leaves’
 abbrev pub lose : State → Request → Result
 lose s r = record { state = removed s r; reply = done }
 
 -- ---- 10 split, 11 merge
 
--- the boundary before the entry becomes b, 1 or 0
+-- ‘a border before the entry is set or removed; guards stay’: it becomes b, 1 or 0
 abbrev pub set-boundary : State → ℕ → ℕ → Result
 set-boundary s e b = record { state = with-store s (with-boundary (s .store) (put e b (s .store .boundary))); reply = done }
 
--- ---- 12 restart a tablet, 13 restart a player
+-- ---- 12 tablet restart, 13 player restart
 
--- the guards of the tablet that holds the entry become 0
+-- ‘the guards of the tablet containing the entry become 0’
 abbrev pub restart-tablet : State → ℕ → Result
 restart-tablet s e = record { state = with-store s (restarted (s .store) e); reply = done }
 
--- the player's guards are cleared, and its pending requests abandoned
+-- ‘its guards and cells are cleared, its waiting rows given up as in step 8’: those arrived leave, the others are marked
 abbrev pub restart-player : State → ℕ → Result
 restart-player s p =
     let rs = map (λ r. cond (by p r) (mark-abandoned r) r) (keep (λ r. not (by p r && (pending r && r .delivered))) (s .requests)) in
     record { state = with-requests (with-player s p fresh-player) rs; reply = done }
 
--- ---- a step
+-- ---- who can cause a refusal
 
--- the tests in the order of the refusals, and then the step
+-- the first test that holds gives its number, and nothing is altered
+abbrev pub check : State → Bool → ℕ → Result → Result
+check s true n x = record { state = s; reply = refusal n }
+check s false n x = x
+
+-- ‘32 no row that this step fits’: what it does to the request with serial n that it fits
+abbrev pub on-request : State → ℕ → (Request → Bool) → (Request → Result) → Result
+on-request s n f go = find (λ r. serial-is n r && f r) (s .requests) (record { state = s; reply = refusal no-such-request }) go
+
+-- ‘34 a serial is needed and none is left’
+abbrev pub need-serial : State → Result → Result
+need-serial s x = check s (leb serials (s .last)) no-serial-left x
+
+-- ‘33 a row is needed and all 64 are taken’, and then 34
+abbrev pub need-place : State → Result → Result
+need-place s x = check s (leb places (length (s .requests))) no-place-left (need-serial s x)
+
+-- ---- the thirteen steps
+
+-- each with its tests, ‘For a step: 28, 29, 30, 31, 32, 35, 33, 34’
 abbrev pub step : State → Step → Result
 step s (Assign p g) = check s (leb players p || bad-range g) out-of-range (need-serial s (set-owner s p g))
 step s (Release g) = check s (bad-range g) out-of-range (need-serial s (set-owner s 8 g))
