@@ -9,7 +9,7 @@ use native.Mathlib.Omega.{arith}
 use Rattle.requests.specs.declared.Request.{Request}
 use Rattle.players.specs.Rules.{State, with-requests, issue}
 use Rattle.linearizable.proofs.Facts.{In, clash, if-set, all-append, rising-append}
-use Rattle.linearizable.proofs.Invariant.{Inv, Live, GuardRequestOf, Clear, WriteOf, WouldCommit, RequestOk, Unused, Told, cached-weak}
+use Rattle.linearizable.proofs.Invariant.{Inv, Live, GuardRequestOf, Clear, WriteOf, WouldCommit, RequestOk, Unused, Told}
 
 abbrev pub add : State → Request → State
 add s n = with-requests (issue s) (s .requests ++ (n ∷ []))
@@ -21,8 +21,6 @@ pub record New (s : State) (n : Request) : Type 0 where
   pub pending : n .abandoned ≡ false
   pub least : 3 ≤ n .kind
   pub most : n .kind ≤ 5
-  pub player : n .player < 8
-  pub out : n .first ≡ 0
   pub guard : n .guard ≢ 0 → n .guard ≡ s .player (n .player) .held (n .low)
   pub requested : (p e : ℕ) → GuardRequestOf n p e → s .player p .held e ≡ 0
   pub apart : (q : Request) (p e : ℕ) → In q (s .requests) → GuardRequestOf n p e → GuardRequestOf q p e → ⊥
@@ -55,9 +53,8 @@ module _ (s : State) (n : Request) (i : Inv s) (w : New s n) where
   add-request : (r : Request) → Added (s .requests) n r → RequestOk (s .last + 1) r
   add-request r (old m) =
       let k = i .request r m in
-      record { first = k .first; issued = omega arith; guard = k .guard; write = k .write; away = k .away; least = k .least; most = k .most; player = k .player; version = λ e. let z = k .version e in omega arith }
+      record { first = k .first; issued = omega arith; guard = k .guard; write = k .write; away = k .away; least = k .least; most = k .most }
   add-request r new =
-      let o = w .out in
       let g : n .guard ≤ s .last = if-set (n .guard) (s .last) (λ h. let a = w .guard h in let b = i .guards (n .player) (n .low) in omega arith) in
       record {
         first = omega arith;
@@ -67,8 +64,6 @@ module _ (s : State) (n : Request) (i : Inv s) (w : New s n) where
         away = λ h. w .away;
         least = w .least;
         most = w .most;
-        player = w .player;
-        version = λ e. omega arith;
       }
 
   add-requested : (r : Request) (p e : ℕ) → Added (s .requests) n r → GuardRequestOf r p e → s .player p .held e ≡ 0
@@ -144,8 +139,8 @@ module _ (s : State) (n : Request) (i : Inv s) (w : New s n) where
         rising = rising-append 0 (s .last) (s .requests) n (i .rising) (λ r m. i .request r m .issued) zero-le (let k = w .serial in omega arith);
         request = λ r m. add-request r (added (s .requests) n r m);
         guards = λ p e. let b = i .guards p e in omega arith;
-        caches = λ p e. cached-weak (s .last) (s .last + 1) (s .player p .cached e) (omega arith) (i .caches p e);
-        entry = λ e. let k = i .entry e in record { epoch = omega arith; guard = omega arith; version = omega arith };
+        caches = λ p e. let b = i .caches p e in omega arith;
+        entry = λ e. let k = i .entry e in record { epoch = omega arith; guard = omega arith };
         requested = λ r p e m. add-requested r p e (added (s .requests) n r m);
         apart = λ r q p e m j. add-apart r q p e (added (s .requests) n r m) (added (s .requests) n q j);
         settled = λ r x p e m j. add-settled r x p e (added (s .requests) n r m) (added (s .requests) n x j);

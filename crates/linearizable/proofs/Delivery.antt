@@ -67,15 +67,11 @@ module _ (s : State) (r : Request) (st : Store) (a b : ℕ) (i : Inv s) (v : Del
   guard-bound e (inl g) = let k = i .entry e in omega arith
   guard-bound e (inr g) = let k = i .request r (v .member) in let h = g .1 in omega arith
 
-  version-bound : (e : ℕ) → ValueCase s r st e → st .version e ≤ s .last
-  version-bound e (inl g) = let k = i .entry e in let h = g .0 in omega arith
-  version-bound e (inr g) = let k = i .request r (v .member) in let h = g .1 in omega arith
-
   deliver-request : (x : Request) → AfterDelivery (s .requests) r a b x → RequestOk (s .last) x
   deliver-request x (other j h) = i .request x j
   deliver-request x (itself g) =
       let k = i .request r (v .member) in
-      record { first = k .first; issued = k .issued; guard = k .guard; write = k .write; away = λ z. clash z g; least = k .least; most = k .most; player = k .player; version = λ e. let z = v .told .read-version e in let y = version-bound (r .low) (v .value (r .low)) in omega arith }
+      record { first = k .first; issued = k .issued; guard = k .guard; write = k .write; away = λ z. clash z g; least = k .least; most = k .most }
 
   -- a request of the state after has, but for its delivery, a request of the state before
   guard-request-back : (p e : ℕ) → GuardRequestOf (mark-delivered a b r) p e → GuardRequestOf r p e
@@ -148,7 +144,7 @@ module _ (s : State) (r : Request) (st : Store) (a b : ℕ) (i : Inv s) (v : Del
         request = λ x m. deliver-request x (request-case x m);
         guards = i .guards;
         caches = i .caches;
-        entry = λ e. record { epoch = i .entry e .epoch; guard = guard-bound e (v .guard e); version = version-bound e (v .value e) };
+        entry = λ e. record { epoch = i .entry e .epoch; guard = guard-bound e (v .guard e) };
         requested = λ x p e m. deliver-requested x p e (request-case x m);
         apart = λ x y p e m j. deliver-apart x y p e (request-case x m) (request-case y j);
         settled = λ x y p e m j c d o u n z. let k = would-commit y e j z in deliver-settled x y p e (request-case x m) (k .0) c d o u n (k .1) (z .guard);

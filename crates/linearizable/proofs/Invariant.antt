@@ -1,12 +1,11 @@
 -- What holds of every state that a list of steps reaches.
 -- Assumes nothing.
-use mathlib.Core.Path.{_≡_, refl, sym}
+use mathlib.Core.Path.{_≡_, sym}
 use mathlib.Core.Logic.{_≢_}
 use mathlib.Core.Bool.{true, false}
-use Prim.Native.Nat.{ℕ, _≤_, _<_, zero-le}
-use native.Mathlib.Omega.{arith}
+use Prim.Native.Nat.{ℕ, _≤_, _<_}
 use Rattle.requests.specs.declared.Request.{Request}
-use Rattle.players.specs.Rules.{Cached, State, empty}
+use Rattle.players.specs.Rules.{Cached, State}
 use Rattle.linearizable.proofs.Facts.{In, Rising, bool-elim}
 
 -- What is said of a request and a state
@@ -57,25 +56,10 @@ pub record RequestOk (last : ℕ) (r : Request) : Type 0 where
   pub away : r .abandoned ≡ true → r .delivered ≡ false
   pub least : 3 ≤ r .kind
   pub most : r .kind ≤ 5
-  pub player : r .player < 8
-  pub version : r .kind ≡ 4 → r .first ≤ last
-
-pub record CachedOk (last : ℕ) (c : Cached) : Type 0 where
-  pub guard : c .guard ≤ last
-  pub version : c .version ≤ last
-  pub no-version : c .guard ≡ 0 → c .version ≡ 0
-  pub no-value : c .guard ≡ 0 → c .value ≡ 0
-
-pub cached-weak : (n m : ℕ) (c : Cached) → n ≤ m → CachedOk n c → CachedOk m c
-cached-weak n m c k h = record { guard = omega arith; version = omega arith; no-version = h .no-version; no-value = h .no-value }
-
-pub cached-empty : (n : ℕ) → CachedOk n empty
-cached-empty n = record { guard = zero-le; version = zero-le; no-version = λ e. refl; no-value = λ e. refl }
 
 pub record EntryOk (s : State) (e : ℕ) : Type 0 where
   pub epoch : s .owners .epoch e ≤ s .last
   pub guard : s .store .guard e ≤ s .last
-  pub version : s .store .version e ≤ s .last
 
 -- A guard number that nobody holds yet
 
@@ -104,7 +88,7 @@ pub record Inv (s : State) : Type 0 where
   pub rising : Rising 0 (s .requests)
   pub request : (r : Request) → In r (s .requests) → RequestOk (s .last) r
   pub guards : (p e : ℕ) → s .player p .held e ≤ s .last
-  pub caches : (p e : ℕ) → CachedOk (s .last) (s .player p .cached e)
+  pub caches : (p e : ℕ) → s .player p .cached e .guard ≤ s .last
   pub entry : (e : ℕ) → EntryOk s e
   -- while a player's guard request is pending, the player has no guard there
   pub requested : (r : Request) (p e : ℕ) → In r (s .requests) → GuardRequestOf r p e → s .player p .held e ≡ 0

@@ -14,9 +14,9 @@ use Rattle.players.specs.declared.Step.{Step}
 use Rattle.requests.specs.declared.Request.{Request}
 use Rattle.requests.specs.Model.{any, keep, pending, is-guard-request, is-write, by, shares, writing, using-entry, new-request, mark-overlapped, mark-abandoned, serial-is, drop-request, requesting}
 use Rattle.players.specs.Rules.{Cached, Player, State, Result, empty, fresh, step, players, set-boundary, with-requests, with-store, with-player, set-owner, cleared, cleared-of, fresh-player, removed, live, request-guard, read-from-store, write, settled, restart-tablet, restart-player, grant, with-cached, drop-guard}
-use Rattle.linearizable.proofs.Facts.{In, Rising, clash, and-true, not-of, bool-elim, cond-elim, put-elim, fill-elim, put-same, fill-in, all-map, all-keep, any-none, rising-map, rising-keep, same-request, no-request}
-use Rattle.linearizable.proofs.Invariant.{Inv, Live, GuardRequestOf, Clear, WriteOf, WouldCommit, Told, sole, cached-empty}
-use Rattle.linearizable.proofs.StepCases.{ByCase, Away, Back, StillOwned, Worth, CacheHit, step-elim, after-delivery, marked}
+use Rattle.linearizable.proofs.Facts.{In, Rising, clash, and-right, and-true, not-of, bool-elim, cond-elim, put-elim, fill-elim, put-same, fill-in, all-map, all-keep, any-none, rising-map, rising-keep, same-request, no-request}
+use Rattle.linearizable.proofs.Invariant.{Inv, Live, GuardRequestOf, Clear, WriteOf, WouldCommit, Told, sole}
+use Rattle.linearizable.proofs.StepCases.{ByCase, Undelivered, Answerable, StillOwned, MayCache, CacheHit, step-elim, after-delivery, marked}
 use Rattle.linearizable.proofs.QuietChange.{From, Kept, same, cleared as all-gone, emptied, quiet-keeps}
 use Rattle.linearizable.proofs.AddRequest.{add-keeps}
 use Rattle.linearizable.proofs.Delivery.{deliver-keeps}
@@ -121,8 +121,8 @@ is-asking p e g r a l h =
     (and-true (by p r) (shares g r) (eq-eqb (r .player) p (a .player))
     (and-true (ltb (r .low) (g .high)) (ltb (g .low) (r .high)) (lt-ltb (r .low) (g .high) (omega arith)) (lt-ltb (g .low) (r .high) (omega arith)))))
 
-guard-request-keeps : (s : State) → Inv s → (p : ℕ) (g : Range) → p < 8 → any (requesting p g) (s .requests) ≡ false → Keeps (request-guard s p g)
-guard-request-keeps s i p g h t =
+guard-request-keeps : (s : State) → Inv s → (p : ℕ) (g : Range) → any (requesting p g) (s .requests) ≡ false → Keeps (request-guard s p g)
+guard-request-keeps s i p g t =
     let x = cleared (g .low) (g .high) (s .player p) in
     let m = with-player s p x in
     let n = new-request (s .last + 1) p 3 (g .low) (g .high) 0 0 false in
@@ -133,8 +133,6 @@ guard-request-keeps s i p g h t =
       pending = refl;
       least = omega arith;
       most = omega arith;
-      player = h;
-      out = refl;
       guard = λ z. absurd (z refl);
       requested = λ q e a. put-elim (λ (y : Player). y .held e ≡ 0) p x (s .player) q (λ z. fill-in (g .low) (g .high) 0 (s .player p .held) e (a .low) (a .high)) (λ z. absurd (z (sym (a .player))));
       apart = λ r q e j a b. clash (is-asking p e g r (record { kind = b .kind; player = b .player ∙ sym (a .player); low = b .low; high = b .high; pending = b .pending }) (a .low) (a .high)) (any-none (requesting p g) (s .requests) t r j);
@@ -147,8 +145,8 @@ guard-request-keeps s i p g h t =
 
 -- Step 4
 
-read-keeps : (s : State) → Inv s → (p e : ℕ) → p < 8 → Keeps (read-from-store s p e)
-read-keeps s i p e h =
+read-keeps : (s : State) → Inv s → (p e : ℕ) → Keeps (read-from-store s p e)
+read-keeps s i p e =
     let g = cond (live s p e) (s .player p .held e) 0 in
     let n = new-request (s .last + 1) p 4 e 0 0 g (any (writing p e) (s .requests)) in
     add-keeps s n i
@@ -158,8 +156,6 @@ read-keeps s i p e h =
       pending = refl;
       least = omega arith;
       most = omega arith;
-      player = h;
-      out = refl;
       guard = cond-elim (λ (y : ℕ). y ≢ 0 → y ≡ s .player p .held e) (live s p e) (s .player p .held e) 0 (λ t z. refl) (λ t z. absurd (z refl));
       requested = λ q x a. let k = a .kind in absurd (omega arith);
       apart = λ r q x j a b. let k = a .kind in absurd (omega arith);
@@ -178,7 +174,7 @@ marked-from p e s t r m =
     (λ z. record { was = r; member = m; serial = refl; player = refl; kind = refl; low = refl; high = refl; value = refl; guard = refl; delivered = refl; first = refl; second = refl; clear = λ h. clash refl h; pending = λ h. h; away = λ g h. clash g h; dropped = λ g h. clash g h })
     (λ z. unchanged s t r m)
 
-module _ (s : State) (i : Inv s) (p e v : ℕ) (h : p < 8) (l : Live s p e) where
+module _ (s : State) (i : Inv s) (p e v : ℕ) (l : Live s p e) where
   marked-clear : (q x : ℕ) → p ≡ q → e ≡ x → (r : Request) → In r (s .requests) → Clear (cond (using-entry p e r) (mark-overlapped r) r) q x → ⊥
   marked-clear q x y z r m =
       cond-elim (λ (k : Request). Clear k q x → ⊥) (using-entry p e r) (mark-overlapped r) r (λ t c. clash refl (c .clear))
@@ -206,8 +202,6 @@ module _ (s : State) (i : Inv s) (p e v : ℕ) (h : p < 8) (l : Live s p e) wher
         pending = refl;
         least = omega arith;
         most = omega arith;
-        player = h;
-        out = refl;
         guard = λ z. sym (with-cached-held s p e empty p e);
         requested = λ q x a. let k = a .kind in absurd (omega arith);
         apart = λ r q x j a b. let k = a .kind in absurd (omega arith);
@@ -224,14 +218,14 @@ module _ (s : State) (i : Inv s) (p e v : ℕ) (h : p < 8) (l : Live s p e) wher
 
 -- Step 6
 
-module _ (s : State) (i : Inv s) (r : Request) (n : ℕ) (w : Away s r n) where
+module _ (s : State) (i : Inv s) (r : Request) (n : ℕ) (w : Undelivered s r n) where
   -- a request whose outcome is 2 changes nothing at the store
   refused-keeps : r .kind ≢ 4 → Inv (after-delivery s r (s .store) 2 0)
   refused-keeps k =
       deliver-keeps s r (s .store) 2 0 i
       (record {
         member = w .member;
-        away = w .away;
+        away = w .undelivered;
         guard = λ e. inl refl;
         value = λ e. inl (refl, refl);
         set = λ k a. absurd (omega arith);
@@ -243,7 +237,7 @@ module _ (s : State) (i : Inv s) (r : Request) (n : ℕ) (w : Away s r n) where
       deliver-keeps s r (guarded (s .store) (r .low) (r .high) (r .serial)) 1 0 i
       (record {
         member = w .member;
-        away = w .away;
+        away = w .undelivered;
         guard = λ e. fill-elim (λ (g : ℕ). (g ≡ s .store .guard e) ⊎ ((r .kind ≡ 3) × (g ≡ r .serial))) (r .low) (r .high) (r .serial) (s .store .guard) e (λ a b. inr (k, refl)) (inl refl);
         value = λ e. inl (refl, refl);
         set = λ h a e. fill-in (r .low) (r .high) (r .serial) (s .store .guard) e;
@@ -255,7 +249,7 @@ module _ (s : State) (i : Inv s) (r : Request) (n : ℕ) (w : Away s r n) where
       deliver-keeps s r (s .store) (s .store .version (r .low)) (s .store .value (r .low)) i
       (record {
         member = w .member;
-        away = w .away;
+        away = w .undelivered;
         guard = λ e. inl refl;
         value = λ e. inl (refl, refl);
         set = λ h a. absurd (omega arith);
@@ -265,7 +259,7 @@ module _ (s : State) (i : Inv s) (r : Request) (n : ℕ) (w : Away s r n) where
   value-case : r .kind ≡ 5 → r .guard ≡ s .store .guard (r .low) → (e : ℕ) (b : Bool) → eqb e (r .low) ≡ b → ((cond b (r .serial) (s .store .version e) ≡ s .store .version e) × (cond b (r .value) (s .store .value e) ≡ s .store .value e)) ⊎ (WouldCommit s r e × (cond b (r .serial) (s .store .version e) ≡ r .serial))
   value-case k g e true t =
       let z = sym (eqb-true e (r .low) t) in
-      inr (record { kind = k; low = z; away = w .away; guard = g ∙ ap (s .store .guard) z }, refl)
+      inr (record { kind = k; low = z; away = w .undelivered; guard = g ∙ ap (s .store .guard) z }, refl)
   value-case k g e false t = inl (refl, refl)
 
   commit-keeps : r .kind ≡ 5 → r .guard ≡ s .store .guard (r .low) → Inv (after-delivery s r (write-committed (s .store) (r .low) (r .serial) (r .value)) 1 0)
@@ -273,7 +267,7 @@ module _ (s : State) (i : Inv s) (r : Request) (n : ℕ) (w : Away s r n) where
       deliver-keeps s r (write-committed (s .store) (r .low) (r .serial) (r .value)) 1 0 i
       (record {
         member = w .member;
-        away = w .away;
+        away = w .undelivered;
         guard = λ e. inl refl;
         value = λ e. value-case k g e (eqb e (r .low)) refl;
         set = λ h. absurd (omega arith);
@@ -300,7 +294,7 @@ drop-guard-keeps s i p n = player-keeps s i p (cleared-of n (s .player p)) (λ e
 
 -- Step 7
 
-module _ (s : State) (i : Inv s) (r : Request) (n : ℕ) (w : Back s r n) where
+module _ (s : State) (i : Inv s) (r : Request) (n : ℕ) (w : Answerable s r n) where
   would-commit-before : (x : Request) (e : ℕ) → WouldCommit (removed s r) x e → WouldCommit s x e
   would-commit-before x e a = record { kind = a .kind; low = a .low; away = a .away; guard = a .guard }
 
@@ -322,8 +316,8 @@ module _ (s : State) (i : Inv s) (r : Request) (n : ℕ) (w : Back s r n) where
       })
 
   -- a read, or a write that committed
-  kept-keeps : (a b : ℕ) → r .kind ≢ 3 → Worth s r → a ≤ s .last → (Told s r (r .low) → (a ≡ s .store .version (r .low)) × (b ≡ s .store .value (r .low))) → Inv (with-cached (removed s r) (r .player) (r .low) (record { guard = r .guard; version = a; value = b }))
-  kept-keeps a b k v h f =
+  kept-keeps : (a b : ℕ) → r .kind ≢ 3 → MayCache s r → (Told s r (r .low) → (a ≡ s .store .version (r .low)) × (b ≡ s .store .value (r .low))) → Inv (with-cached (removed s r) (r .player) (r .low) (record { guard = r .guard; version = a; value = b }))
+  kept-keeps a b k v f =
       let p = r .player in
       let e = r .low in
       let m = w .member in
@@ -332,7 +326,7 @@ module _ (s : State) (i : Inv s) (r : Request) (n : ℕ) (w : Back s r n) where
       let z = i .request r m in
       with-cached-keeps (removed s r) p e (record { guard = r .guard; version = a; value = b }) (removed-keeps s i r)
       (record {
-        ok = record { guard = omega arith; version = h; no-version = λ x. absurd (v .full x); no-value = λ x. absurd (v .full x) };
+        issued = omega arith;
         request = λ x j y. i .unused x (removed-in s (r .serial) x j .0) y .request r m;
         fresh = record { version = y .0; value = y .1; still = λ x j a. let q = removed-in s (r .serial) x j in q .1 (sym (sole s i r x p e m (q .0) c (v .live) (would-commit-before x e a))) };
       })
@@ -377,7 +371,7 @@ tablet-keeps s i e =
 -- Step 13
 
 -- a request of the player that is not delivered and pending is not delivered
-pub kept-away : (s : State) → Inv s → (p : ℕ) (r : Request) → In r (s .requests) → by p r ≡ true → not (by p r && (pending r && r .delivered)) ≡ true → r .delivered ≡ false
+kept-away : (s : State) → Inv s → (p : ℕ) (r : Request) → In r (s .requests) → by p r ≡ true → not (by p r && (pending r && r .delivered)) ≡ true → r .delivered ≡ false
 kept-away s i p r m h t =
     bool-elim (r .abandoned) (i .request r m .away)
     (λ g. bool-elim (r .delivered) (λ w. clash (and-true (by p r) (pending r && r .delivered) h (and-true (pending r) (r .delivered) (not-of (r .abandoned) g) w)) (not-true (by p r && (pending r && r .delivered)) t)) (λ w. w))
@@ -406,37 +400,35 @@ is-five s i r m a b = let k = i .request r m in omega arith
 step-cases : (s : State) → Inv s → ByCase (λ x. Keeps) s
 step-cases s i =
     record {
-      refused = λ x n. i;
-      assigned = λ p g a b c. owner-keeps s i p g;
-      released = λ g b c. owner-keeps s i 8 g;
-      requested = λ p g h a b t c. guard-request-keeps s i p g h t;
-      cached-result = λ p e h t. i;
-      reading = λ p e h t c. read-keeps s i p e h;
-      writing = λ p e v h l c. write-keeps s i p e v h l;
+      refused = λ x n h. i;
+      assigned = λ p g. owner-keeps s i p g;
+      released = λ g. owner-keeps s i 8 g;
+      requested = λ p g t. guard-request-keeps s i p g t;
+      reads-cache = λ p e h. i;
+      reads-store = λ p e. read-keeps s i p e;
+      writes = λ p e v l. write-keeps s i p e v l;
       set = λ r n w k t. set-keeps s i r n w k;
       unset = λ r n w k t. refused-keeps s i r n w (omega arith);
       fetched = λ r n w k. fetched-keeps s i r n w k;
-      takes-effect = λ r n w a b g. commit-keeps s i r n w (is-five s i r (w .member) a b) g;
+      takes-effect = λ r n w a b t. commit-keeps s i r n w (is-five s i r (w .member) a b) (eqb-true (r .guard) (s .store .guard (r .low)) (and-right (not (eqb (r .guard) 0)) (eqb (r .guard) (s .store .guard (r .low))) t));
       rejects = λ r n w a b t. refused-keeps s i r n w b;
       granted = λ r n w k h o. granted-keeps s i r n w k h o;
-      layout = λ r n w k h o. removed-keeps s i r;
-      not-held = λ r n w k h. removed-keeps s i r;
-      read-kept = λ r n w k v. kept-keeps s i r n w (r .first) (r .second) (omega arith) v (i .request r (w .member) .version k) (λ y. (y .read-version k, y .read-value k));
-      read-told = λ r n w k v. removed-keeps s i r;
-      write-kept = λ r n w a b o v.
-          let k = is-five s i r (w .member) a b in
-          kept-keeps s i r n w (r .serial) (r .value) a v (i .request r (w .member) .issued) (λ y. (y .write-version k o, y .write-value k o));
-      write-told = λ r n w a b o v. removed-keeps s i r;
-      write-back = λ r n w a b o. drop-guard-keeps (removed s r) (removed-keeps s i r) (r .player) (r .guard);
-      write-dropped = λ r n w k a. drop-guard-keeps (removed s r) (removed-keeps s i r) (r .player) (r .guard);
-      request-dropped = λ r n w k a. removed-keeps s i r;
-      write-marked = λ r n w k a. write-marked-keeps s i r (w .member) a;
-      request-marked = λ r n w k a. marked-keeps s i r (w .member) a (λ h. absurd (k h));
-      losing = λ r n m z g. removed-keeps s i r;
-      splitting = λ e a b. store-keeps s i (set-boundary s e 1 .state .store) (λ x h. refl) (λ x. refl) (λ x. refl);
-      merging = λ e a b. store-keeps s i (set-boundary s e 0 .state .store) (λ x h. refl) (λ x. refl) (λ x. refl);
-      tablet = λ e. tablet-keeps s i e;
-      player = λ p h. restart-keeps s i p;
+      layout = λ r n. removed-keeps s i r;
+      not-held = λ r n. removed-keeps s i r;
+      read-cached = λ r n w k v. kept-keeps s i r n w (r .first) (r .second) (omega arith) v (λ y. (y .read-version k, y .read-value k));
+      read-not-cached = λ r n w k. removed-keeps s i r;
+      write-cached = λ r n w a b o v. let k = is-five s i r (w .member) a b in kept-keeps s i r n w (r .serial) (r .value) a v (λ y. (y .write-version k o, y .write-value k o));
+      write-not-cached = λ r n w a b o. removed-keeps s i r;
+      write-rejected = λ r n w a b o. drop-guard-keeps (removed s r) (removed-keeps s i r) (r .player) (r .guard);
+      write-dropped = λ r n. drop-guard-keeps (removed s r) (removed-keeps s i r) (r .player) (r .guard);
+      request-dropped = λ r n. removed-keeps s i r;
+      write-marked = λ r n m k a. write-marked-keeps s i r m a;
+      request-marked = λ r n m k a. marked-keeps s i r m a (λ h. absurd (k h));
+      loses = λ r n. removed-keeps s i r;
+      splits = λ e. store-keeps s i (set-boundary s e 1 .state .store) (λ x h. refl) (λ x. refl) (λ x. refl);
+      merges = λ e. store-keeps s i (set-boundary s e 0 .state .store) (λ x h. refl) (λ x. refl) (λ x. refl);
+      restarts-tablet = λ e. tablet-keeps s i e;
+      restarts-player = λ p. restart-keeps s i p;
     }
 
 pub step-keeps : (s : State) (x : Step) → Inv s → Inv (step s x .state)
@@ -450,8 +442,8 @@ fresh-inv =
       rising = tt;
       request = λ r m. no-request m;
       guards = λ p e. zero-le;
-      caches = λ p e. cached-empty 0;
-      entry = λ e. record { epoch = zero-le; guard = zero-le; version = zero-le };
+      caches = λ p e. zero-le;
+      entry = λ e. record { epoch = zero-le; guard = zero-le };
       requested = λ r p e m. no-request m;
       apart = λ r q p e m. no-request m;
       settled = λ r w p e m. no-request m;

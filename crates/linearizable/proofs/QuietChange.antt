@@ -9,7 +9,7 @@ use native.Mathlib.Omega.{arith}
 use Rattle.requests.specs.declared.Request.{Request}
 use Rattle.players.specs.Rules.{Cached, State, empty}
 use Rattle.linearizable.proofs.Facts.{In, Rising, bool-elim, if-set}
-use Rattle.linearizable.proofs.Invariant.{Inv, Live, GuardRequestOf, Clear, WriteOf, WouldCommit, RequestOk, CachedOk, EntryOk, Unused, Told, Fresh, cached-weak, cached-empty}
+use Rattle.linearizable.proofs.Invariant.{Inv, Live, GuardRequestOf, Clear, WriteOf, WouldCommit, RequestOk, EntryOk, Unused, Told, Fresh}
 
 -- a player's guard and cached result at one entry, before and after
 pub data Kept (g : ℕ) (c : Cached) : ℕ → Cached → Type 0 where
@@ -37,10 +37,10 @@ kept-bound same n m k h = omega arith
 kept-bound cleared n m k h = zero-le
 kept-bound emptied n m k h = omega arith
 
-pub kept-cached-ok : {g : ℕ} {c : Cached} {g′ : ℕ} {c′ : Cached} → Kept g c g′ c′ → (n m : ℕ) → n ≤ m → CachedOk n c → CachedOk m c′
-kept-cached-ok {c = c} same n m k h = cached-weak n m c k h
-kept-cached-ok cleared n m k h = cached-empty m
-kept-cached-ok emptied n m k h = cached-empty m
+pub kept-cached-bound : {g : ℕ} {c : Cached} {g′ : ℕ} {c′ : Cached} → Kept g c g′ c′ → (n m : ℕ) → n ≤ m → c .guard ≤ n → c′ .guard ≤ m
+kept-cached-bound same n m k h = omega arith
+kept-cached-bound cleared n m k h = zero-le
+kept-cached-bound emptied n m k h = zero-le
 
 -- where a request of the state after comes from
 pub record From (s t : State) (r : Request) : Type 0 where
@@ -115,20 +115,13 @@ module _ (s t : State) (i : Inv s) (q : Quiet s t) where
         away = λ g. bool-elim (f .was .abandoned) (λ h. sym (f .delivered) ∙ k .away h) (λ h. f .away g h);
         least = omega arith;
         most = omega arith;
-        player = omega arith;
-        version = λ e. let z = k .version (f .kind ∙ e) in omega arith;
       }
 
   quiet-entry : (e : ℕ) → EntryOk t e
   quiet-entry e =
       let k = i .entry e in
       let l = q .last in
-      let z = q .version e in
-      record {
-        epoch = q .issued e (k .epoch);
-        guard = if-set (t .store .guard e) (t .last) (λ h. let g = q .guard e h in omega arith);
-        version = omega arith;
-      }
+      record { epoch = q .issued e (k .epoch); guard = if-set (t .store .guard e) (t .last) (λ h. let g = q .guard e h in omega arith) }
 
   quiet-unused : (r : Request) → In r (t .requests) → r .kind ≡ 3 → Unused t (r .serial)
   quiet-unused r m k =
@@ -174,7 +167,7 @@ module _ (s t : State) (i : Inv s) (q : Quiet s t) where
         rising = q .rises (i .rising);
         request = quiet-request;
         guards = λ p e. kept-bound (q .players p e) (s .last) (t .last) (q .last) (i .guards p e);
-        caches = λ p e. kept-cached-ok (q .players p e) (s .last) (t .last) (q .last) (i .caches p e);
+        caches = λ p e. kept-cached-bound (q .players p e) (s .last) (t .last) (q .last) (i .caches p e);
         entry = quiet-entry;
         requested = λ r p e m a. let f = q .requests r m in kept-zero (q .players p e) (i .requested (f .was) p e (f .member) (guard-request-back r f p e a));
         apart = λ r x p e m n a b. let f = q .requests r m in let g = q .requests x n in sym (f .serial) ∙ i .apart (f .was) (g .was) p e (f .member) (g .member) (guard-request-back r f p e a) (guard-request-back x g p e b) ∙ g .serial;

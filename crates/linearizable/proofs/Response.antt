@@ -9,7 +9,7 @@ use Rattle.store.specs.Model.{fill, put}
 use Rattle.requests.specs.declared.Request.{Request}
 use Rattle.players.specs.Rules.{Cached, State, Player, grant, with-cached}
 use Rattle.linearizable.proofs.Facts.{In, put-elim, fill-elim}
-use Rattle.linearizable.proofs.Invariant.{Inv, Live, GuardRequestOf, Clear, WouldCommit, CachedOk, Unused, Told, Fresh}
+use Rattle.linearizable.proofs.Invariant.{Inv, Live, GuardRequestOf, Clear, WouldCommit, Unused, Told, Fresh}
 
 -- A guard granted
 
@@ -88,8 +88,8 @@ module _ (s : State) (p lo hi n : ℕ) (i : Inv s) (v : Grantable s p lo hi n) w
         rising = i .rising;
         request = i .request;
         guards = λ q e. g-guards q e (grant-case s p lo hi n q e);
-        caches = λ q e. subst (CachedOk (s .last)) (sym (grant-cached s p lo hi n q e)) (i .caches q e);
-        entry = λ e. let k = i .entry e in record { epoch = k .epoch; guard = k .guard; version = k .version };
+        caches = λ q e. subst (λ (c : Cached). c .guard ≤ s .last) (sym (grant-cached s p lo hi n q e)) (i .caches q e);
+        entry = λ e. let k = i .entry e in record { epoch = k .epoch; guard = k .guard };
         requested = λ r q e m a. g-requested r q e m a (grant-case s p lo hi n q e);
         apart = i .apart;
         settled = λ r w q e m j a b c o d z. i .settled r w q e m j a b c o d (g-would-commit w e z);
@@ -113,7 +113,7 @@ module _ (s : State) (p lo hi n : ℕ) (i : Inv s) (v : Grantable s p lo hi n) w
 -- A result cached
 
 pub record Worthy (s : State) (p x : ℕ) (c : Cached) : Type 0 where
-  pub ok : CachedOk (s .last) c
+  pub issued : c .guard ≤ s .last
   pub request : (r : Request) → In r (s .requests) → r .kind ≡ 3 → c .guard ≢ r .serial
   pub fresh : Fresh s c x
 
@@ -143,9 +143,9 @@ module _ (s : State) (p x : ℕ) (c : Cached) (i : Inv s) (v : Worthy s p x c) w
       let k = l .epoch in
       record { set = λ z. l .set (g ∙ z); owner = l .owner; epoch = omega arith }
 
-  m-caches : (q e : ℕ) (d : Cached) → CachedCase s p x c q e d → CachedOk (s .last) d
-  m-caches q e d (inl z) = subst (CachedOk (s .last)) (sym z) (i .caches q e)
-  m-caches q e d (inr z) = subst (CachedOk (s .last)) (sym (z .1)) (v .ok)
+  m-caches : (q e : ℕ) (d : Cached) → CachedCase s p x c q e d → d .guard ≤ s .last
+  m-caches q e d (inl z) = subst (λ (y : Cached). y .guard ≤ s .last) (sym z) (i .caches q e)
+  m-caches q e d (inr z) = subst (λ (y : Cached). y .guard ≤ s .last) (sym (z .1)) (v .issued)
 
   m-unused : (r : Request) → In r (s .requests) → r .kind ≡ 3 → (q e : ℕ) (d : Cached) → CachedCase s p x c q e d → d .guard ≢ r .serial
   m-unused r m k q e d (inl z) h = i .unused r m k .cached q e (ap (λ (y : Cached). y .guard) (sym z) ∙ h)
@@ -163,7 +163,7 @@ module _ (s : State) (p x : ℕ) (c : Cached) (i : Inv s) (v : Worthy s p x c) w
         request = i .request;
         guards = λ q e. let g = with-cached-held s p x c q e in let b = i .guards q e in omega arith;
         caches = λ q e. m-caches q e (with-cached s p x c .player q .cached e) (cached-case s p x c q e);
-        entry = λ e. let k = i .entry e in record { epoch = k .epoch; guard = k .guard; version = k .version };
+        entry = λ e. let k = i .entry e in record { epoch = k .epoch; guard = k .guard };
         requested = λ r q e m a. with-cached-held s p x c q e ∙ i .requested r q e m a;
         apart = i .apart;
         settled = λ r w q e m j a b o u d z. i .settled r w q e m j a b o u d (m-would-commit w e z);

@@ -5,7 +5,7 @@ use mathlib.Core.List.{List, [], _∷_, _++_, map}
 use Prim.Native.Nat.{ℕ, zero, suc, _+_, _-_}
 use lib.ListN.{length}
 use lib.Dec.{leb, ltb, eqb}
-use Rattle.store.specs.Model.{Store, entries, serials, bad-range, fill, put, with-boundary, one-tablet, guarded, commits, committed as write-committed, restarted, fresh as fresh-store}
+use Rattle.store.specs.Model.{Store, serials, bad-range, fill, put, with-boundary, one-tablet, guarded, commits, committed as write-committed, restarted, fresh as fresh-store}
 use Rattle.store.specs.declared.Reply.{Reply}
 use Rattle.store.specs.declared.Range.{Range}
 use Rattle.players.specs.declared.Step.{Step}
