@@ -3,13 +3,15 @@
 use mathlib.Core.Path.{_≡_, refl, sym, ap, _∙_}
 use mathlib.Core.Bool.{true, false, Bool, cond, not}
 use mathlib.Core.List.{List, [], _∷_, _++_, map}
-use mathlib.Core.Logic.{_⊎_, inl, inr}
+use mathlib.Core.Logic.{_≢_, _⊎_, inl, inr}
 use Prim.Native.Nat.{ℕ}
-use borrow.Author.Tests.{eqb-true, eqb-false, not-true}
+use native.Mathlib.Omega.{arith}
+use borrow.Author.Tests.{eqb-true, eqb-false, eq-eqb, ne-eqb, not-true}
 use Rattle.requests.specs.declared.Request.{Request}
 use Rattle.requests.specs.Model.{change-request, drop-request, is-guard-request, is-read, keep, serial-is}
 use Rattle.linearizable.specs.Ledger.{Note, note-guard-request, note-read, note-write}
 use Rattle.linearizable.proofs.Facts.{In, all-append, all-keep, all-map}
+use Rattle.linearizable.proofs.Basics.{cond-false, cond-true}
 
 -- the serial of a request, what is noted of it, whether it is delivered, and its outcome
 pub record Flight : Type 0 where
@@ -22,6 +24,16 @@ pub record Flight : Type 0 where
 -- what the ledger notes of a request
 abbrev pub note-of : Request → Note
 note-of r = cond (is-guard-request r) (note-guard-request (r .player) (record { low = r .low; high = r .high })) (cond (is-read r) (note-read (r .player) (r .low)) (note-write (r .player) (r .low) (r .value) (r .guard)))
+
+-- by its kind
+pub noted-guard-request : (r : Request) → r .kind ≡ 3 → note-of r ≡ note-guard-request (r .player) (record { low = r .low; high = r .high })
+noted-guard-request r k = cond-true (is-guard-request r) _ _ (eq-eqb (r .kind) 3 k)
+
+pub noted-read : (r : Request) → r .kind ≡ 4 → note-of r ≡ note-read (r .player) (r .low)
+noted-read r k = cond-false (is-guard-request r) _ _ (ne-eqb (r .kind) 3 (omega arith)) ∙ cond-true (is-read r) _ _ (eq-eqb (r .kind) 4 k)
+
+pub noted-write : (r : Request) → r .kind ≢ 3 → r .kind ≢ 4 → note-of r ≡ note-write (r .player) (r .low) (r .value) (r .guard)
+noted-write r a b = cond-false (is-guard-request r) _ _ (ne-eqb (r .kind) 3 a) ∙ cond-false (is-read r) _ _ (ne-eqb (r .kind) 4 b)
 
 -- a request as the ledger sees it
 abbrev pub flight : Request → Flight

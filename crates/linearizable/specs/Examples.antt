@@ -114,7 +114,7 @@ read-crossed = once-granted (Write 0 1 7 ∷ Read 0 1 ∷ Deliver 4 ∷ Deliver 
 
 read-crossed-is-rejected : (st : Store) → Linear (spoiled no-overlap fresh [] read-crossed) st → ⊥
 unfolding unbroken tablet-first tablet-end
-read-crossed-is-rejected st c = let z : _≡_ {A = ℕ} 0 3 = c .cache-gave-what-store-held 0 1 (cache-read 0 0) _ last-one refl .0 in omega arith
+read-crossed-is-rejected st c = let z : _≡_ {A = ℕ} 0 3 = ap (λ (r : Reply). r .a) (c .cache-gave-what-store-held 0 1 (cache-read 0 0) _ last-one refl) in omega arith
 
 -- a write's answer cached though a second write crossed it
 abbrev write-crossed : List Step
@@ -122,7 +122,7 @@ write-crossed = once-granted (Write 0 1 7 ∷ Write 0 1 8 ∷ Deliver 3 ∷ Deli
 
 write-crossed-is-rejected : (st : Store) → Linear (spoiled no-overlap fresh [] write-crossed) st → ⊥
 unfolding unbroken tablet-first tablet-end
-write-crossed-is-rejected st c = let z : _≡_ {A = ℕ} 3 4 = c .cache-gave-what-store-held 0 1 (cache-read 3 7) _ last-one refl .0 in omega arith
+write-crossed-is-rejected st c = let z : _≡_ {A = ℕ} 3 4 = ap (λ (r : Reply). r .a) (c .cache-gave-what-store-held 0 1 (cache-read 3 7) _ last-one refl) in omega arith
 
 -- a guard granted late to a player that lost the range and has it back, while a write of the owner between is under way
 abbrev late-grant : List Step
@@ -130,7 +130,7 @@ late-grant = Assign 0 (range 0 9) ∷ RequestGuard 0 (range 0 9) ∷ Deliver 2 �
 
 late-grant-is-rejected : (st : Store) → Linear (spoiled no-epoch fresh [] late-grant) st → ⊥
 unfolding unbroken tablet-first tablet-end
-late-grant-is-rejected st c = let z : _≡_ {A = ℕ} 0 5 = c .cache-gave-what-store-held 0 1 (cache-read 0 0) _ last-one refl .0 in omega arith
+late-grant-is-rejected st c = let z : _≡_ {A = ℕ} 0 5 = ap (λ (r : Reply). r .a) (c .cache-gave-what-store-held 0 1 (cache-read 0 0) _ last-one refl) in omega arith
 
 -- guards left after an abandoned write
 abbrev abandoned-write : List Step
@@ -138,7 +138,7 @@ abandoned-write = once-granted (Write 0 1 7 ∷ Abandon 3 ∷ Read 0 1 ∷ Deliv
 
 abandoned-write-is-rejected : (st : Store) → Linear (spoiled kept-guards fresh [] abandoned-write) st → ⊥
 unfolding unbroken tablet-first tablet-end
-abandoned-write-is-rejected st c = let z : _≡_ {A = ℕ} 0 3 = c .cache-gave-what-store-held 0 1 (cache-read 0 0) _ last-one refl .0 in omega arith
+abandoned-write-is-rejected st c = let z : _≡_ {A = ℕ} 0 3 = ap (λ (r : Reply). r .a) (c .cache-gave-what-store-held 0 1 (cache-read 0 0) _ last-one refl) in omega arith
 
 -- a write rejected, yet answered as committed: its reply is 4, and it does not stand in the order
 abbrev stale-write : List Step
@@ -160,5 +160,5 @@ missed-is-rejected : (st : Store) → Linear (spoiled zero-reads fresh [] missed
 unfolding unbroken tablet-first tablet-end
 missed-is-rejected st c =
     let x : AnsweredRead (spoiled zero-reads fresh [] missed) (numbered 4) 1 (store-read 0 0) = record { begun = _; begins = (_, not-last (not-last last-one), refl); ended = _; responds = (_, last-one, refl) } in
-    let z : _≡_ {A = ℕ} 0 3 = c .reads-gave-last-write-ahead (numbered 4) 1 (store-read 0 0) (item (numbered 4) false 1 3 7 8) (item (numbered 3) true 1 3 7 5 ∷ []) x last-one refl .0 in
+    let z : _≡_ {A = ℕ} 0 3 = ap (λ (r : Reply). r .a) (c .reads-gave-last-write-ahead (numbered 4) 1 (store-read 0 0) (item (numbered 4) false 1 3 7 8) (item (numbered 3) true 1 3 7 5 ∷ []) x last-one refl) in
     omega arith
