@@ -105,10 +105,6 @@ module _ (s : State) (n : Request) (i : Inv s) (w : New s n) where
       let b = w .serial in
       record { guard = u .guard; cached = u .cached; request = λ x j. unused-request (n .serial) u (omega arith) x (added (s .requests) n x j) }
 
-  add-unset : (r : Request) → Added (s .requests) n r → r .kind ≡ 3 → r .delivered ≡ false → (e : ℕ) → s .store .guard e ≢ r .serial
-  add-unset r (old m) k a e = i .unset r m k a e
-  add-unset r new k a e = let b = i .entry e in let c = w .serial in omega arith
-
   add-owner : (x : Request) (p e : ℕ) → Added (s .requests) n x → Live s p e → WouldCommit (add s n) x e → (x .player ≡ p) × (x .guard ≡ s .player p .held e)
   add-owner x p e (old m) l a = i .by-owner x p e m l (would-commit-back x e a)
   add-owner x p e new l a = let v = new-write p e a (l .owner) in (v .player, w .write-guard p e v)
@@ -140,12 +136,10 @@ module _ (s : State) (n : Request) (i : Inv s) (w : New s n) where
         request = λ r m. add-request r (added (s .requests) n r m);
         guards = λ p e. let b = i .guards p e in omega arith;
         caches = λ p e. let b = i .caches p e in omega arith;
-        entry = λ e. let k = i .entry e in record { epoch = omega arith; guard = omega arith };
         requested = λ r p e m. add-requested r p e (added (s .requests) n r m);
         apart = λ r q p e m j. add-apart r q p e (added (s .requests) n r m) (added (s .requests) n q j);
         settled = λ r x p e m j. add-settled r x p e (added (s .requests) n r m) (added (s .requests) n x j);
         unused = λ r m. add-unused r (added (s .requests) n r m);
-        unset = λ r m. add-unset r (added (s .requests) n r m);
         by-owner = λ x p e m l. add-owner x p e (added (s .requests) n x m) (live-back p e l);
         alone = λ r x p e m j. add-alone r x p e (added (s .requests) n r m) (added (s .requests) n x j);
         dropped = λ x p e m. add-dropped x p e (added (s .requests) n x m);

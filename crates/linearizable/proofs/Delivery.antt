@@ -5,7 +5,6 @@ use mathlib.Core.Logic.{_≢_, _⊎_, inl, inr}
 use mathlib.Core.Bool.{true, false, cond, not}
 use mathlib.Core.List.{List}
 use Prim.Native.Nat.{ℕ, _≤_, _<_}
-use native.Mathlib.Omega.{arith}
 use borrow.Author.Tests.{eqb-true, eqb-false, not-true}
 use Rattle.store.specs.Model.{Store}
 use Rattle.requests.specs.declared.Request.{Request}
@@ -63,10 +62,6 @@ module _ (s : State) (r : Request) (st : Store) (a b : ℕ) (i : Inv s) (v : Del
   would-commit : (x : Request) (e : ℕ) → In x (requests-after-delivery s r a b) → WouldCommit (after-delivery s r st a b) x e → In x (s .requests) × WouldCommit s x e
   would-commit x e m z = would-commit-back x e (request-case x m) (v .guard e) z
 
-  guard-bound : (e : ℕ) → GuardCase s r st e → st .guard e ≤ s .last
-  guard-bound e (inl g) = let k = i .entry e in omega arith
-  guard-bound e (inr g) = let k = i .request r (v .member) in let h = g .1 in omega arith
-
   deliver-request : (x : Request) → AfterDelivery (s .requests) r a b x → RequestOk (s .last) x
   deliver-request x (other j h) = i .request x j
   deliver-request x (itself g) =
@@ -109,11 +104,6 @@ module _ (s : State) (r : Request) (st : Store) (a b : ℕ) (i : Inv s) (v : Del
       let u = i .unused r (v .member) k in
       record { guard = u .guard; cached = u .cached; request = λ y m. used-request (r .serial) u y (request-case y m) }
 
-  deliver-unset : (x : Request) (e : ℕ) → AfterDelivery (s .requests) r a b x → GuardCase s r st e → x .kind ≡ 3 → x .delivered ≡ false → st .guard e ≢ x .serial
-  deliver-unset x e (other j h) (inl g) k w z = i .unset x j k w e (sym g ∙ z)
-  deliver-unset x e (other j h) (inr g) k w z = h (sym z ∙ g .1)
-  deliver-unset x e (itself g) c k w z = clash refl w
-
   deliver-alone : (x y : Request) (p e : ℕ) → AfterDelivery (s .requests) r a b x → AfterDelivery (s .requests) r a b y → Clear x p e → WriteOf y p e → x .serial ≡ y .serial
   deliver-alone x y p e (other m h) (other j k) c d = i .alone x y p e m j c d
   deliver-alone x y p e (other m h) (itself g) c d = i .alone x r p e m (v .member) c (write-back p e d)
@@ -144,12 +134,10 @@ module _ (s : State) (r : Request) (st : Store) (a b : ℕ) (i : Inv s) (v : Del
         request = λ x m. deliver-request x (request-case x m);
         guards = i .guards;
         caches = i .caches;
-        entry = λ e. record { epoch = i .entry e .epoch; guard = guard-bound e (v .guard e) };
         requested = λ x p e m. deliver-requested x p e (request-case x m);
         apart = λ x y p e m j. deliver-apart x y p e (request-case x m) (request-case y j);
         settled = λ x y p e m j c d o u n z. let k = would-commit y e j z in deliver-settled x y p e (request-case x m) (k .0) c d o u n (k .1) (z .guard);
         unused = λ x m. deliver-unused x (request-case x m);
-        unset = λ x m k w e. deliver-unset x e (request-case x m) (v .guard e) k w;
         by-owner = λ w p e m l z. let k = would-commit w e m z in i .by-owner w p e (k .0) (live-back p e l) (k .1);
         alone = λ x y p e m j. deliver-alone x y p e (request-case x m) (request-case y j);
         dropped = λ x p e m. deliver-dropped x p e (request-case x m);

@@ -57,10 +57,6 @@ pub record RequestOk (last : ℕ) (r : Request) : Type 0 where
   pub least : 3 ≤ r .kind
   pub most : r .kind ≤ 5
 
-pub record EntryOk (s : State) (e : ℕ) : Type 0 where
-  pub epoch : s .owners .epoch e ≤ s .last
-  pub guard : s .store .guard e ≤ s .last
-
 -- A guard number that nobody holds yet
 
 pub record Unused (s : State) (n : ℕ) : Type 0 where
@@ -89,16 +85,14 @@ pub record Inv (s : State) : Type 0 where
   pub request : (r : Request) → In r (s .requests) → RequestOk (s .last) r
   pub guards : (p e : ℕ) → s .player p .held e ≤ s .last
   pub caches : (p e : ℕ) → s .player p .cached e .guard ≤ s .last
-  pub entry : (e : ℕ) → EntryOk s e
   -- while a player's guard request is pending, the player has no guard there
   pub requested : (r : Request) (p e : ℕ) → In r (s .requests) → GuardRequestOf r p e → s .player p .held e ≡ 0
   -- two pending guard requests of one player share no entry
   pub apart : (r q : Request) (p e : ℕ) → In r (s .requests) → In q (s .requests) → GuardRequestOf r p e → GuardRequestOf q p e → r .serial ≡ q .serial
   -- once a guard request is set at the store and could still be granted, no write there would commit
   pub settled : (r w : Request) (p e : ℕ) → In r (s .requests) → In w (s .requests) → GuardRequestOf r p e → r .delivered ≡ true → r .first ≡ 1 → s .owners .owner e ≡ p → s .owners .epoch e < r .serial → WouldCommit s w e → ⊥
-  -- nobody holds the number of a guard request in flight; before it is delivered the store does not either
+  -- nobody holds or carries the number of a guard request in flight
   pub unused : (r : Request) → In r (s .requests) → r .kind ≡ 3 → Unused s (r .serial)
-  pub unset : (r : Request) → In r (s .requests) → r .kind ≡ 3 → r .delivered ≡ false → (e : ℕ) → s .store .guard e ≢ r .serial
   -- where a player's guard is live, only that player's writes under that guard would commit
   pub by-owner : (w : Request) (p e : ℕ) → In w (s .requests) → Live s p e → WouldCommit s w e → (w .player ≡ p) × (w .guard ≡ s .player p .held e)
   -- a read or write that is not overlapped has no other pending write of its player on the entry

@@ -43,7 +43,6 @@ player-keeps s i p x h =
           (λ z. same);
       owner = λ e n a b. refl;
       epoch = λ e n a b. refl;
-      issued = λ e h. h;
       guard = λ e h. refl;
       version = λ e. refl;
       value = λ e. refl;
@@ -52,12 +51,12 @@ player-keeps s i p x h =
 requests-keep : (s : State) → Inv s → (rs : List Request) → Rising 0 rs → ((r : Request) → In r rs → From s (with-requests s rs) r) → Inv (with-requests s rs)
 requests-keep s i rs t h =
     quiet-keeps s (with-requests s rs) i
-    (record { last = omega arith; rises = λ x. t; requests = h; players = λ q e. same; owner = λ e n a b. refl; epoch = λ e n a b. refl; issued = λ e h. h; guard = λ e h. refl; version = λ e. refl; value = λ e. refl })
+    (record { last = omega arith; rises = λ x. t; requests = h; players = λ q e. same; owner = λ e n a b. refl; epoch = λ e n a b. refl; guard = λ e h. refl; version = λ e. refl; value = λ e. refl })
 
 store-keeps : (s : State) → Inv s → (st : Store) → ((e : ℕ) → st .guard e ≢ 0 → st .guard e ≡ s .store .guard e) → ((e : ℕ) → st .version e ≡ s .store .version e) → ((e : ℕ) → st .value e ≡ s .store .value e) → Inv (with-store s st)
 store-keeps s i st g a b =
     quiet-keeps s (with-store s st) i
-    (record { last = omega arith; rises = λ x. x; requests = λ r m. unchanged s (with-store s st) r m; players = λ q e. same; owner = λ e n a b. refl; epoch = λ e n a b. refl; issued = λ e h. h; guard = g; version = a; value = b })
+    (record { last = omega arith; rises = λ x. x; requests = λ r m. unchanged s (with-store s st) r m; players = λ q e. same; owner = λ e n a b. refl; epoch = λ e n a b. refl; guard = g; version = a; value = b })
 
 -- Steps 1 and 2
 
@@ -72,7 +71,6 @@ owner-keeps s i p g =
       players = λ q e. same;
       owner = λ e n. owner-case e n (within (g .low) (g .high) e);
       epoch = λ e n. epoch-case e n (within (g .low) (g .high) e);
-      issued = λ e h. fill-elim (λ (x : ℕ). x ≤ s .last + 1) (g .low) (g .high) (s .last + 1) (s .owners .epoch) e (λ a b. omega arith) (omega arith);
       guard = λ e h. refl;
       version = λ e. refl;
       value = λ e. refl;
@@ -443,12 +441,10 @@ fresh-inv =
       request = λ r m. no-request m;
       guards = λ p e. zero-le;
       caches = λ p e. zero-le;
-      entry = λ e. record { epoch = zero-le; guard = zero-le };
       requested = λ r p e m. no-request m;
       apart = λ r q p e m. no-request m;
       settled = λ r w p e m. no-request m;
       unused = λ r m. no-request m;
-      unset = λ r m. no-request m;
       by-owner = λ w p e m. no-request m;
       alone = λ r w p e m. no-request m;
       dropped = λ w p e m. no-request m;

@@ -8,8 +8,8 @@ use Prim.Native.Nat.{ℕ, _≤_, _<_, zero-le}
 use native.Mathlib.Omega.{arith}
 use Rattle.requests.specs.declared.Request.{Request}
 use Rattle.players.specs.Rules.{Cached, State, empty}
-use Rattle.linearizable.proofs.Facts.{In, Rising, bool-elim, if-set}
-use Rattle.linearizable.proofs.Invariant.{Inv, Live, GuardRequestOf, Clear, WriteOf, WouldCommit, RequestOk, EntryOk, Unused, Told, Fresh}
+use Rattle.linearizable.proofs.Facts.{In, Rising, bool-elim}
+use Rattle.linearizable.proofs.Invariant.{Inv, Live, GuardRequestOf, Clear, WriteOf, WouldCommit, RequestOk, Unused, Told, Fresh}
 
 -- a player's guard and cached result at one entry, before and after
 pub data Kept (g : ℕ) (c : Cached) : ℕ → Cached → Type 0 where
@@ -70,7 +70,6 @@ pub record Quiet (s t : State) : Type 0 where
   -- an entry whose epoch is below a serial issued before has its owner and epoch from before
   pub owner : (e n : ℕ) → t .owners .epoch e < n → n ≤ s .last → t .owners .owner e ≡ s .owners .owner e
   pub epoch : (e n : ℕ) → t .owners .epoch e < n → n ≤ s .last → t .owners .epoch e ≡ s .owners .epoch e
-  pub issued : (e : ℕ) → s .owners .epoch e ≤ s .last → t .owners .epoch e ≤ t .last
   pub guard : (e : ℕ) → t .store .guard e ≢ 0 → t .store .guard e ≡ s .store .guard e
   pub version : (e : ℕ) → t .store .version e ≡ s .store .version e
   pub value : (e : ℕ) → t .store .value e ≡ s .store .value e
@@ -117,12 +116,6 @@ module _ (s t : State) (i : Inv s) (q : Quiet s t) where
         most = omega arith;
       }
 
-  quiet-entry : (e : ℕ) → EntryOk t e
-  quiet-entry e =
-      let k = i .entry e in
-      let l = q .last in
-      record { epoch = q .issued e (k .epoch); guard = if-set (t .store .guard e) (t .last) (λ h. let g = q .guard e h in omega arith) }
-
   quiet-unused : (r : Request) → In r (t .requests) → r .kind ≡ 3 → Unused t (r .serial)
   quiet-unused r m k =
       let f = q .requests r m in
@@ -168,7 +161,6 @@ module _ (s t : State) (i : Inv s) (q : Quiet s t) where
         request = quiet-request;
         guards = λ p e. kept-bound (q .players p e) (s .last) (t .last) (q .last) (i .guards p e);
         caches = λ p e. kept-cached-bound (q .players p e) (s .last) (t .last) (q .last) (i .caches p e);
-        entry = quiet-entry;
         requested = λ r p e m a. let f = q .requests r m in kept-zero (q .players p e) (i .requested (f .was) p e (f .member) (guard-request-back r f p e a));
         apart = λ r x p e m n a b. let f = q .requests r m in let g = q .requests x n in sym (f .serial) ∙ i .apart (f .was) (g .was) p e (f .member) (g .member) (guard-request-back r f p e a) (guard-request-back x g p e b) ∙ g .serial;
         settled = λ r w p e m n a b c o d z.
@@ -179,11 +171,6 @@ module _ (s t : State) (i : Inv s) (q : Quiet s t) where
             let y = q .epoch e (r .serial) d j in
             i .settled (f .was) (g .was) p e (f .member) (g .member) (guard-request-back r f p e a) (f .delivered ∙ b) (f .first ∙ c) (sym (q .owner e (r .serial) d j) ∙ o) (omega arith) (would-commit-back w g e z);
         unused = quiet-unused;
-        unset = λ r m k a e z.
-            let f = q .requests r m in
-            let b = i .request (f .was) (f .member) in
-            let c : r .serial ≢ 0 = omega arith in
-            i .unset (f .was) (f .member) (f .kind ∙ k) (f .delivered ∙ a) e (sym (q .guard e (λ y. c (sym z ∙ y))) ∙ z ∙ sym (f .serial));
         by-owner = λ w p e m l a.
             let f = q .requests w m in
             let k = i .by-owner (f .was) p e (f .member) (live-back p e l) (would-commit-back w f e a) in

@@ -89,7 +89,6 @@ module _ (s : State) (p lo hi n : ℕ) (i : Inv s) (v : Grantable s p lo hi n) w
         request = i .request;
         guards = λ q e. g-guards q e (grant-case s p lo hi n q e);
         caches = λ q e. subst (λ (c : Cached). c .guard ≤ s .last) (sym (grant-cached s p lo hi n q e)) (i .caches q e);
-        entry = λ e. let k = i .entry e in record { epoch = k .epoch; guard = k .guard };
         requested = λ r q e m a. g-requested r q e m a (grant-case s p lo hi n q e);
         apart = i .apart;
         settled = λ r w q e m j a b c o d z. i .settled r w q e m j a b c o d (g-would-commit w e z);
@@ -100,7 +99,6 @@ module _ (s : State) (p lo hi n : ℕ) (i : Inv s) (v : Grantable s p lo hi n) w
               cached = λ q e z. u .cached q e (ap (λ (c : Cached). c .guard) (sym (grant-cached s p lo hi n q e)) ∙ z);
               request = u .request;
             };
-        unset = i .unset;
         by-owner = λ w q e m l a. g-owner w q e m l (g-would-commit w e a) (grant-case s p lo hi n q e);
         alone = i .alone;
         dropped = λ w q e m k h d. g-dropped w q e m k h d (grant-case s p lo hi n q e);
@@ -163,14 +161,12 @@ module _ (s : State) (p x : ℕ) (c : Cached) (i : Inv s) (v : Worthy s p x c) w
         request = i .request;
         guards = λ q e. let g = with-cached-held s p x c q e in let b = i .guards q e in omega arith;
         caches = λ q e. m-caches q e (with-cached s p x c .player q .cached e) (cached-case s p x c q e);
-        entry = λ e. let k = i .entry e in record { epoch = k .epoch; guard = k .guard };
         requested = λ r q e m a. with-cached-held s p x c q e ∙ i .requested r q e m a;
         apart = i .apart;
         settled = λ r w q e m j a b o u d z. i .settled r w q e m j a b o u d (m-would-commit w e z);
         unused = λ r m k.
             let u = i .unused r m k in
             record { guard = λ q e z. u .guard q e (sym (with-cached-held s p x c q e) ∙ z); cached = λ q e. m-unused r m k q e (with-cached s p x c .player q .cached e) (cached-case s p x c q e); request = u .request };
-        unset = i .unset;
         by-owner = λ w q e m l a. let k = i .by-owner w q e m (m-live q e l) (m-would-commit w e a) in (k .0, k .1 ∙ sym (with-cached-held s p x c q e));
         alone = i .alone;
         dropped = λ w q e m k h d z. i .dropped w q e m k h d (sym (with-cached-held s p x c q e) ∙ z);

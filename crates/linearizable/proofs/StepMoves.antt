@@ -20,10 +20,11 @@ use Rattle.requests.specs.Model.{any, by, change-request, drop-request, keep, m
 use Rattle.players.specs.Rules.{Cached, Player, Result, State, cleared, cleared-of, deliver-read, empty, fresh-player, grant, live, read-from-cache, read-from-store, removed, request-guard, restart-player, set-owner, settled, step, with-cached, with-store, write}
 use Rattle.linearizable.specs.Ledger.{Event, Item, Ledger, Note, add-note, enter, event, record-grant, item, note-guard-request, note-read, note-write, numbered, set-store, take-effect, take-up}
 use Rattle.linearizable.specs.Claim.{answered, beginning, count, no-response, nothing, response}
-use Rattle.linearizable.proofs.Facts.{In, and-right, cond-elim}
+use Rattle.linearizable.proofs.Facts.{In, and-right, cond-elim, same-request}
 use Rattle.linearizable.proofs.Basics.{cond-true}
-use Rattle.linearizable.proofs.Invariant.{Live}
+use Rattle.linearizable.proofs.Invariant.{Inv, Live}
 use Rattle.linearizable.proofs.StepCases.{Answerable, ByCase, CacheHit, Undelivered, step-elim}
+use Rattle.linearizable.proofs.InvariantKept.{cached-is-store}
 use Rattle.linearizable.proofs.Flights.{Flight, InFlight, flight, in-append, in-change, in-drop, in-keep, in-map, note-of, noted-guard-request, noted-read, noted-write, settle}
 use Rattle.linearizable.proofs.Simulation.{AnswerNote, Carries, Gave, GrantFact, Held, Move, OutcomeNote, ResponseFact, Sim, Spent, on-cons}
 use Rattle.linearizable.proofs.Advance.{count-same, count-zero, fence-stays, spent-stays}
@@ -41,8 +42,7 @@ cond-or-zero : (b : Bool) (x : ℕ) → (cond b 0 x ≡ x) ⊎ (cond b 0 x ≡ 0
 cond-or-zero true x = inr refl
 cond-or-zero false x = inl refl
 
-module _ {h : List Event} {s : State} {l : Ledger} (sim : Sim h s l)
-    (current : (p e : ℕ) → CacheHit s p e → (s .player p .cached e .version ≡ s .store .version e) × (s .player p .cached e .value ≡ s .store .value e)) where
+module _ {h : List Event} {s : State} {l : Ledger} (sim : Sim h s l) (inv : Inv s) where
   abbrev Goal : Step → Result → Type 0
   Goal x r = Move h s l (event x (r .reply)) (r .state) (enter (length h) l x (r .reply))
 
@@ -121,7 +121,7 @@ module _ {h : List Event} {s : State} {l : Ledger} (sim : Sim h s l)
 
   cache-read-begins : (p e : ℕ) → CacheHit s p e → Goal (Read p e) (read-from-cache s p e)
   cache-read-begins p e t =
-      let m = current p e t in
+      let m = cached-is-store s inv p e t in
       let v : s .player p .cached e .version ≡ l .store .version e = m .0 ∙ ap (λ (st : Store). st .version e) (sym (sim .store)) in
       let w : s .player p .cached e .value ≡ l .store .value e = m .1 ∙ ap (λ (st : Store). st .value e) (sym (sim .store)) in
       cache-read-move sim p e (s .player p .cached e .version) (s .player p .cached e .value) (rw (v, w))
@@ -164,7 +164,7 @@ module _ {h : List Event} {s : State} {l : Ledger} (sim : Sim h s l)
       go false k =
           elim (in-change (r .serial) (mark-delivered a b) (s .requests) k) [
             | inl z ↦ inl z
-            | inr z ↦ inr (sym (z .3) ∙ ap (settle a b) (sim .alike (flight (z .0)) (flight r) (z .0, z .1, refl) (r, mr, refl) (z .2)))
+            | inr z ↦ inr (sym (z .3) ∙ ap (λ q. settle a b (flight q)) (same-request 0 (s .requests) (inv .rising) (z .0) r (z .1) mr (z .2)))
           ]
 
   module _ (r : Request) (n : ℕ) (w : Undelivered s r n) where

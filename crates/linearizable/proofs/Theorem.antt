@@ -12,7 +12,7 @@ use Rattle.linearizable.specs.Claim.{Linear, Linearizable}
 use Rattle.linearizable.proofs.Facts.{no-request}
 use Rattle.linearizable.proofs.Basics.{stands-nil}
 use Rattle.linearizable.proofs.Invariant.{Inv}
-use Rattle.linearizable.proofs.InvariantKept.{step-keeps, fresh-inv, cached-is-store}
+use Rattle.linearizable.proofs.InvariantKept.{step-keeps, fresh-inv}
 use Rattle.linearizable.proofs.Simulation.{Sim}
 use Rattle.linearizable.proofs.Advance.{advance}
 use Rattle.linearizable.proofs.StepMoves.{moves}
@@ -27,7 +27,6 @@ sim-fresh =
       noted = λ c m. no-request (m .1);
       below = λ c m. no-request (m .1);
       carries = λ c m. no-request (m .1);
-      alike = λ c d m. no-request (m .1);
       outcome = λ c m. no-request (m .1);
       fences = λ c q p g m. no-request (m .1);
       items = λ i m. absurd (stands-nil (m .1));
@@ -42,7 +41,7 @@ sim-fresh =
 from-here : (xs : List Step) (h : List Event) (s : State) → Inv s → Sim h s (ledger h) → Started h → Linear (history-from s h xs) (state-from s xs .store)
 from-here [] h s inv sim st = linear h s sim st
 from-here (x ∷ xs) h s inv sim st =
-    let next : Sim (event x (step s x .reply) ∷ h) (step s x .state) (ledger (event x (step s x .reply) ∷ h)) = advance sim (moves sim (cached-is-store s inv) x) in
+    let next : Sim (event x (step s x .reply) ∷ h) (step s x .state) (ledger (event x (step s x .reply) ∷ h)) = advance sim (moves sim inv x) in
     from-here xs (event x (step s x .reply) ∷ h) (step s x .state) (step-keeps s x inv) next (started-step (event x (step s x .reply)) h (step s x .state) next st)
 
 -- every list of steps from fresh tables is linearizable
