@@ -14,6 +14,18 @@ use Rattle.linearizable.proofs.Invariant.{Inv, Live, GuardRequestOf, Cl
 abbrev pub add : State → Request → State
 add s n = with-requests (issue s) (s .requests ++ (n ∷ []))
 
+-- a new guard request over an entry: the player holds no guard there, and no other of its guard requests covers it
+pub record NewGuardRequest (s : State) (p e : ℕ) : Type 0 where
+  pub unheld : s .player p .held e ≡ 0
+  pub apart : (q : Request) → In q (s .requests) → GuardRequestOf q p e → ⊥
+
+-- a new write on an entry: it carries the player's live guard, nothing is cached there, and what was undisturbed is so no more
+pub record NewWrite (s : State) (n : Request) (p e : ℕ) : Type 0 where
+  pub live : Live s p e
+  pub guard : n .guard ≡ s .player p .held e
+  pub cached : s .player p .cached e .guard ≡ 0
+  pub alone : (r : Request) → In r (s .requests) → Clear r p e → ⊥
+
 -- what the new request must satisfy in the state before it
 pub record New (s : State) (n : Request) : Type 0 where
   pub serial : n .serial ≡ s .last + 1
@@ -22,13 +34,9 @@ pub record New (s : State) (n : Request) : Type 0 where
   pub least : 3 ≤ n .kind
   pub most : n .kind ≤ 5
   pub guard : n .guard ≢ 0 → n .guard ≡ s .player (n .player) .held (n .low)
-  pub requested : (p e : ℕ) → GuardRequestOf n p e → s .player p .held e ≡ 0
-  pub apart : (q : Request) (p e : ℕ) → In q (s .requests) → GuardRequestOf n p e → GuardRequestOf q p e → ⊥
-  pub write-live : (p e : ℕ) → WriteOf n p e → Live s p e
-  pub write-guard : (p e : ℕ) → WriteOf n p e → n .guard ≡ s .player p .held e
-  pub write-cached : (p e : ℕ) → WriteOf n p e → s .player p .cached e .guard ≡ 0
-  pub alone-new : (w : Request) (p e : ℕ) → In w (s .requests) → Clear n p e → WriteOf w p e → ⊥
-  pub alone-old : (r : Request) (p e : ℕ) → In r (s .requests) → WriteOf n p e → Clear r p e → ⊥
+  pub guard-request : (p e : ℕ) → GuardRequestOf n p e → NewGuardRequest s p e
+  pub write : (p e : ℕ) → WriteOf n p e → NewWrite s n p e
+  pub alone : (w : Request) (p e : ℕ) → In w (s .requests) → Clear n p e → WriteOf w p e → ⊥
 
 data Added (rs : List Request) (n : Request) : Request → Type 0 where
   old : {r : Request} → In r rs → Added rs n r
@@ -47,7 +55,7 @@ module _ (s : State) (n : Request) (i : Inv s) (w : New s n) where
   -- the new request as a write on an entry of which the owner is known
   new-write : (p e : ℕ) → WouldCommit (add s n) n e → s .owners .owner e ≡ p → WriteOf n p e
   new-write p e a o =
-      let l = w .write-live (n .player) e (record { kind = a .kind; player = refl; low = a .low; pending = w .pending }) in
+      let l = w .write (n .player) e (record { kind = a .kind; player = refl; low = a .low; pending = w .pending }) .live in
       record { kind = a .kind; player = sym (l .owner) ∙ o; low = a .low; pending = w .pending }
 
   add-request : (r : Request) → Added (s .requests) n r → RequestOk (s .last + 1) r
@@ -60,7 +68,7 @@ module _ (s : State) (n : Request) (i : Inv s) (w : New s n) where
         first = omega arith;
         issued = omega arith;
         guard = omega arith;
-        write = λ k z. let x : WriteOf n (n .player) (n .low) = record { kind = k; player = refl; low = refl; pending = w .pending } in w .write-live (n .player) (n .low) x .set (sym (w .write-guard (n .player) (n .low) x) ∙ z);
+        write = λ k z. let x = w .write (n .player) (n .low) (record { kind = k; player = refl; low = refl; pending = w .pending }) in x .live .set (sym (x .guard) ∙ z);
         away = λ h. w .away;
         least = w .least;
         most = w .most;
@@ -68,17 +76,17 @@ module _ (s : State) (n : Request) (i : Inv s) (w : New s n) where
 
   add-requested : (r : Request) (p e : ℕ) → Added (s .requests) n r → GuardRequestOf r p e → s .player p .held e ≡ 0
   add-requested r p e (old m) a = i .requested r p e m a
-  add-requested r p e new a = w .requested p e a
+  add-requested r p e new a = w .guard-request p e a .unheld
 
   add-apart : (r q : Request) (p e : ℕ) → Added (s .requests) n r → Added (s .requests) n q → GuardRequestOf r p e → GuardRequestOf q p e → r .serial ≡ q .serial
   add-apart r q p e (old m) (old j) a b = i .apart r q p e m j a b
-  add-apart r q p e (old m) new a b = absurd (w .apart r p e m b a)
-  add-apart r q p e new (old j) a b = absurd (w .apart q p e j a b)
+  add-apart r q p e (old m) new a b = absurd (w .guard-request p e b .apart r m a)
+  add-apart r q p e new (old j) a b = absurd (w .guard-request p e a .apart q j b)
   add-apart r q p e new new a b = refl
 
   add-settled : (r x : Request) (p e : ℕ) → Added (s .requests) n r → Added (s .requests) n x → GuardRequestOf r p e → r .delivered ≡ true → r .first ≡ 1 → s .owners .owner e ≡ p → s .owners .epoch e < r .serial → WouldCommit (add s n) x e → ⊥
   add-settled r x p e (old m) (old j) a b c o d z = i .settled r x p e m j a b c o d (would-commit-back x e z)
-  add-settled r x p e (old m) new a b c o d z = w .write-live p e (new-write p e z o) .set (i .requested r p e m a)
+  add-settled r x p e (old m) new a b c o d z = w .write p e (new-write p e z o) .live .set (i .requested r p e m a)
   add-settled r x p e new y a b c o d z = clash b (w .away)
 
   unused-request : (c : ℕ) → Unused s c → c ≢ 0 → (x : Request) → Added (s .requests) n x → x .guard ≢ c
@@ -107,12 +115,12 @@ module _ (s : State) (n : Request) (i : Inv s) (w : New s n) where
 
   add-owner : (x : Request) (p e : ℕ) → Added (s .requests) n x → Live s p e → WouldCommit (add s n) x e → (x .player ≡ p) × (x .guard ≡ s .player p .held e)
   add-owner x p e (old m) l a = i .by-owner x p e m l (would-commit-back x e a)
-  add-owner x p e new l a = let v = new-write p e a (l .owner) in (v .player, w .write-guard p e v)
+  add-owner x p e new l a = let v = new-write p e a (l .owner) in (v .player, w .write p e v .guard)
 
   add-alone : (r x : Request) (p e : ℕ) → Added (s .requests) n r → Added (s .requests) n x → Clear r p e → WriteOf x p e → r .serial ≡ x .serial
   add-alone r x p e (old m) (old j) a b = i .alone r x p e m j a b
-  add-alone r x p e (old m) new a b = absurd (w .alone-old r p e m b a)
-  add-alone r x p e new (old j) a b = absurd (w .alone-new x p e j a b)
+  add-alone r x p e (old m) new a b = absurd (w .write p e b .alone r m a)
+  add-alone r x p e new (old j) a b = absurd (w .alone x p e j a b)
   add-alone r x p e new new a b = refl
 
   add-dropped : (x : Request) (p e : ℕ) → Added (s .requests) n x → x .kind ≡ 5 → x .player ≡ p → x .abandoned ≡ true → s .player p .held e ≢ x .guard
@@ -127,7 +135,7 @@ module _ (s : State) (n : Request) (i : Inv s) (w : New s n) where
 
   add-still : (p e : ℕ) → Live s p e → s .player p .cached e .guard ≡ s .player p .held e → (x : Request) → Added (s .requests) n x → WouldCommit (add s n) x e → ⊥
   add-still p e l h x (old m) a = i .cached p e h l .still x m (would-commit-back x e a)
-  add-still p e l h x new a = l .set (sym h ∙ w .write-cached p e (new-write p e a (l .owner)))
+  add-still p e l h x new a = l .set (sym h ∙ w .write p e (new-write p e a (l .owner)) .cached)
 
   pub add-keeps : Inv (add s n)
   add-keeps =

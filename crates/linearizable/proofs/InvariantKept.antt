@@ -132,13 +132,13 @@ guard-request-keeps s i p g t =
       least = omega arith;
       most = omega arith;
       guard = λ z. absurd (z refl);
-      requested = λ q e a. put-elim (λ (y : Player). y .held e ≡ 0) p x (s .player) q (λ z. fill-in (g .low) (g .high) 0 (s .player p .held) e (a .low) (a .high)) (λ z. absurd (z (sym (a .player))));
-      apart = λ r q e j a b. clash (is-asking p e g r (record { kind = b .kind; player = b .player ∙ sym (a .player); low = b .low; high = b .high; pending = b .pending }) (a .low) (a .high)) (any-none (requesting p g) (s .requests) t r j);
-      write-live = λ q e a. let k = a .kind in absurd (omega arith);
-      write-guard = λ q e a. let k = a .kind in absurd (omega arith);
-      write-cached = λ q e a. let k = a .kind in absurd (omega arith);
-      alone-new = λ w q e j c a. c .kind refl;
-      alone-old = λ r q e j a c. let k = a .kind in absurd (omega arith);
+      guard-request = λ q e a.
+          record {
+            unheld = put-elim (λ (y : Player). y .held e ≡ 0) p x (s .player) q (λ z. fill-in (g .low) (g .high) 0 (s .player p .held) e (a .low) (a .high)) (λ z. absurd (z (sym (a .player))));
+            apart = λ r j b. clash (is-asking p e g r (record { kind = b .kind; player = b .player ∙ sym (a .player); low = b .low; high = b .high; pending = b .pending }) (a .low) (a .high)) (any-none (requesting p g) (s .requests) t r j);
+          };
+      write = λ q e a. let k = a .kind in absurd (omega arith);
+      alone = λ w q e j c a. c .kind refl;
     })
 
 -- Step 4
@@ -155,13 +155,9 @@ read-keeps s i p e =
       least = omega arith;
       most = omega arith;
       guard = cond-elim (λ (y : ℕ). y ≢ 0 → y ≡ s .player p .held e) (live s p e) (s .player p .held e) 0 (λ t z. refl) (λ t z. absurd (z refl));
-      requested = λ q x a. let k = a .kind in absurd (omega arith);
-      apart = λ r q x j a b. let k = a .kind in absurd (omega arith);
-      write-live = λ q x a. let k = a .kind in absurd (omega arith);
-      write-guard = λ q x a. let k = a .kind in absurd (omega arith);
-      write-cached = λ q x a. let k = a .kind in absurd (omega arith);
-      alone-new = λ w q x j c a. clash (is-writing p e w (record { kind = a .kind; player = a .player ∙ sym (c .player); low = a .low ∙ sym (c .low); pending = a .pending })) (any-none (writing p e) (s .requests) (c .clear) w j);
-      alone-old = λ r q x j a c. let k = a .kind in absurd (omega arith);
+      guard-request = λ q x a. let k = a .kind in absurd (omega arith);
+      write = λ q x a. let k = a .kind in absurd (omega arith);
+      alone = λ w q x j c a. clash (is-writing p e w (record { kind = a .kind; player = a .player ∙ sym (c .player); low = a .low ∙ sym (c .low); pending = a .pending })) (any-none (writing p e) (s .requests) (c .clear) w j);
     })
 
 -- Step 5
@@ -201,17 +197,18 @@ module _ (s : State) (i : Inv s) (p e v : ℕ) (l : Live s p e) where
         least = omega arith;
         most = omega arith;
         guard = λ z. sym (with-cached-held s p e empty p e);
-        requested = λ q x a. let k = a .kind in absurd (omega arith);
-        apart = λ r q x j a b. let k = a .kind in absurd (omega arith);
-        write-live = λ q x a.
+        guard-request = λ q x a. let k = a .kind in absurd (omega arith);
+        write = λ q x a.
             let g = with-cached-held s p e empty q x in
             let y : Live s q x = subst (λ (u : ℕ). Live s u x) (a .player) (subst (Live s p) (a .low) l) in
             let o = y .epoch in
-            record { set = λ z. y .set (sym g ∙ z); owner = y .owner; epoch = omega arith };
-        write-guard = λ q x a. ap (λ (k : ℕ). s .player k .held e) (a .player) ∙ ap (λ (k : ℕ). s .player q .held k) (a .low) ∙ sym (with-cached-held s p e empty q x);
-        write-cached = λ q x a. put-elim (λ (y : Player). y .cached x .guard ≡ 0) p (record { held = s .player p .held; cached = put e empty (s .player p .cached) }) (s .player) q (λ z. put-elim (λ (c : Cached). c .guard ≡ 0) e empty (s .player p .cached) x (λ y. refl) (λ y. absurd (y (sym (a .low))))) (λ z. absurd (z (sym (a .player))));
-        alone-new = λ w q x j c a. all-map (λ (y : Request). WriteOf y q x → ⊥) f (s .requests) (marked-write q x (c .player) (c .low) (c .clear)) w j a;
-        alone-old = λ r q x j a c. all-map (λ (y : Request). Clear y q x → ⊥) f (s .requests) (marked-clear q x (a .player) (a .low)) r j c;
+            record {
+              live = record { set = λ z. y .set (sym g ∙ z); owner = y .owner; epoch = omega arith };
+              guard = ap (λ (k : ℕ). s .player k .held e) (a .player) ∙ ap (λ (k : ℕ). s .player q .held k) (a .low) ∙ sym g;
+              cached = put-elim (λ (y : Player). y .cached x .guard ≡ 0) p (record { held = s .player p .held; cached = put e empty (s .player p .cached) }) (s .player) q (λ z. put-elim (λ (c : Cached). c .guard ≡ 0) e empty (s .player p .cached) x (λ y. refl) (λ y. absurd (y (sym (a .low))))) (λ z. absurd (z (sym (a .player))));
+              alone = λ r j c. all-map (λ (y : Request). Clear y q x → ⊥) f (s .requests) (marked-clear q x (a .player) (a .low)) r j c;
+            };
+        alone = λ w q x j c a. all-map (λ (y : Request). WriteOf y q x → ⊥) f (s .requests) (marked-write q x (c .player) (c .low) (c .clear)) w j a;
       })
 
 -- Step 6
