@@ -6,7 +6,8 @@ use mathlib.Core.Bool.{true, false}
 use Prim.Native.Nat.{ℕ, _≤_, _<_}
 use Rattle.requests.specs.declared.Request.{Request}
 use Rattle.players.specs.Rules.{Cached, State}
-use Rattle.linearizable.proofs.Facts.{In, Rising, bool-elim}
+use Rattle.linearizable.proofs.Tests.{bool-elim}
+use Rattle.linearizable.proofs.RequestLists.{In, Rising}
 
 -- What is said of a request and a state
 

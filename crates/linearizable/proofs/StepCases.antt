@@ -19,7 +19,8 @@ use Rattle.requests.specs.declared.Request.{Request}
 use Rattle.players.specs.Replies.{refusal, done, store-read, committed, rejected, granted, not-held, layout-changed, out-of-range, not-owner, no-live-guard, already-requested, no-such-request, no-place-left, no-serial-left, wrong-boundary}
 use Rattle.requests.specs.Model.{places, any, requesting, pending, is-guard-request, serial-is, is-read, is-write, drop-request, change-request, mark-delivered, mark-abandoned}
 use Rattle.players.specs.Rules.{State, Result, step, check, need-serial, need-place, on-request, players, all-entries, grant, with-cached, drop-guard, cache-hit, owns, live, with-requests, with-store, set-boundary, removed, set-owner, settled, still-owned, may-cache, deliver-guard-request, deliver-read, deliver-write, request-guard, read-from-cache, read-from-store, write, deliver, respond, abandon, lose, restart-tablet, restart-player}
-use Rattle.linearizable.proofs.Facts.{In, and-left, and-right, check-elim, cond-elim, find-elim, every-at}
+use Rattle.linearizable.proofs.Tests.{and-left, and-right, check-elim, cond-elim, every-at}
+use Rattle.linearizable.proofs.RequestLists.{find-elim, In}
 use Rattle.linearizable.proofs.Invariant.{Live}
 
 -- ---- names for the states that a delivery and an abandoning leave

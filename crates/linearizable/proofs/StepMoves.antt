@@ -20,15 +20,16 @@ use Rattle.requests.specs.Model.{any, by, change-request, drop-request, keep, m
 use Rattle.players.specs.Rules.{Cached, Player, Result, State, cleared, cleared-of, deliver-read, empty, fresh-player, grant, live, read-from-cache, read-from-store, removed, request-guard, restart-player, set-owner, settled, step, with-cached, with-store, write}
 use Rattle.linearizable.specs.Ledger.{Event, Item, Ledger, Note, add-note, enter, event, record-grant, item, note-guard-request, note-read, note-write, numbered, set-store, take-effect, take-up}
 use Rattle.linearizable.specs.Claim.{answered, beginning, count, no-response, nothing, response}
-use Rattle.linearizable.proofs.Facts.{In, and-right, cond-elim, same-request}
-use Rattle.linearizable.proofs.Basics.{cond-true}
+use Rattle.linearizable.proofs.Tests.{and-right, cond-elim, cond-true}
+use Rattle.linearizable.proofs.RequestLists.{In, same-request}
+use Rattle.linearizable.proofs.Standing.{on-cons}
 use Rattle.linearizable.proofs.Invariant.{Inv, Live}
-use Rattle.linearizable.proofs.StepCases.{Answerable, ByCase, CacheHit, Undelivered, step-elim}
-use Rattle.linearizable.proofs.InvariantKept.{cached-is-store}
-use Rattle.linearizable.proofs.Flights.{Flight, InFlight, flight, in-append, in-change, in-drop, in-keep, in-map, note-of, noted-guard-request, noted-read, noted-write, settle}
-use Rattle.linearizable.proofs.Simulation.{AnswerNote, Carries, Gave, GrantFact, Held, Move, OutcomeNote, ResponseFact, Sim, Spent, on-cons}
-use Rattle.linearizable.proofs.Advance.{count-same, count-zero, fence-stays, spent-stays}
-use Rattle.linearizable.proofs.Moves.{Cleared, Fewer, deliver-move, begin-move, held-stays, none-yet, quiet-move, cache-read-move, subset-grows, subset-move}
+use Rattle.linearizable.proofs.StepCases.{Answerable, ByCase, CacheHit, step-elim, Undelivered}
+use Rattle.linearizable.proofs.KeptByStep.{cached-is-store}
+use Rattle.linearizable.proofs.Flights.{flight, Flight, in-append, in-change, in-drop, in-keep, in-map, InFlight, note-of, noted-guard-request, noted-read, noted-write, settle}
+use Rattle.linearizable.proofs.Simulation.{AnswerNote, Carries, Gave, GrantFact, Held, Move, OutcomeNote, ResponseFact, Sim, Spent}
+use Rattle.linearizable.proofs.SimulationKept.{count-same, count-zero, fence-stays, spent-stays}
+use Rattle.linearizable.proofs.Moves.{begin-move, cache-read-move, Cleared, deliver-move, Fewer, held-stays, none-yet, quiet-move, subset-grows, subset-move}
 
 -- one player's guards set anew, each as it was or 0
 put-player : (s : State) (p : ℕ) (pl : Player) → ((e : ℕ) → (pl .held e ≡ s .player p .held e) ⊎ (pl .held e ≡ 0)) → (q e : ℕ) → (put p pl (s .player) q .held e ≡ s .player q .held e) ⊎ (put p pl (s .player) q .held e ≡ 0)

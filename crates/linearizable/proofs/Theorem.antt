@@ -9,14 +9,14 @@ use Rattle.players.specs.Rules.{State, fresh, step}
 use Rattle.linearizable.specs.Ledger.{Event, blank, event, ledger}
 use Rattle.linearizable.specs.History.{history-from, state-from}
 use Rattle.linearizable.specs.Claim.{Linear, Linearizable}
-use Rattle.linearizable.proofs.Facts.{no-request}
-use Rattle.linearizable.proofs.Basics.{stands-nil}
+use Rattle.linearizable.proofs.RequestLists.{no-request}
+use Rattle.linearizable.proofs.Standing.{stands-nil}
 use Rattle.linearizable.proofs.Invariant.{Inv}
-use Rattle.linearizable.proofs.InvariantKept.{step-keeps, fresh-inv}
+use Rattle.linearizable.proofs.KeptByStep.{fresh-inv, step-keeps}
 use Rattle.linearizable.proofs.Simulation.{Sim}
-use Rattle.linearizable.proofs.Advance.{advance}
+use Rattle.linearizable.proofs.SimulationKept.{advance}
 use Rattle.linearizable.proofs.StepMoves.{moves}
-use Rattle.linearizable.proofs.Linear.{Started, linear, started-step}
+use Rattle.linearizable.proofs.ClaimShown.{linear, Started, started-step}
 
 -- before the first step
 sim-fresh : Sim [] fresh blank

@@ -8,8 +8,9 @@ use Prim.Native.Nat.{ℕ, _+_, _≤_, _<_, zero-le}
 use native.Mathlib.Omega.{arith}
 use Rattle.requests.specs.declared.Request.{Request}
 use Rattle.players.specs.Rules.{State, with-requests, issue}
-use Rattle.linearizable.proofs.Facts.{In, clash, if-set, all-append, rising-append}
-use Rattle.linearizable.proofs.Invariant.{Inv, Live, GuardRequestOf, Clear, WriteOf, WouldCommit, RequestOk, Unused, Told}
+use Rattle.linearizable.proofs.Tests.{clash, if-set}
+use Rattle.linearizable.proofs.RequestLists.{all-append, In, rising-append}
+use Rattle.linearizable.proofs.Invariant.{Clear, GuardRequestOf, Inv, Live, RequestOk, Told, Unused, WouldCommit, WriteOf}
 
 abbrev pub add : State → Request → State
 add s n = with-requests (issue s) (s .requests ++ (n ∷ []))

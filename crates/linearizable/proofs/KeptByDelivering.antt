@@ -10,9 +10,10 @@ use Rattle.store.specs.Model.{Store}
 use Rattle.requests.specs.declared.Request.{Request}
 use Rattle.requests.specs.Model.{mark-delivered, serial-is, drop-request, change-request}
 use Rattle.players.specs.Rules.{State}
-use Rattle.linearizable.proofs.Facts.{In, Rising, clash, cond-elim, all-map, all-keep, rising-map, rising-keep, same-request}
-use Rattle.linearizable.proofs.StepCases.{requests-after-delivery, after-delivery}
-use Rattle.linearizable.proofs.Invariant.{Inv, Live, GuardRequestOf, Clear, WriteOf, WouldCommit, RequestOk, Unused, Told, Fresh, sole}
+use Rattle.linearizable.proofs.Tests.{clash, cond-elim}
+use Rattle.linearizable.proofs.RequestLists.{all-keep, all-map, In, Rising, rising-keep, rising-map, same-request}
+use Rattle.linearizable.proofs.Invariant.{Clear, Fresh, GuardRequestOf, Inv, Live, RequestOk, sole, Told, Unused, WouldCommit, WriteOf}
+use Rattle.linearizable.proofs.StepCases.{after-delivery, requests-after-delivery}
 
 -- the entry's guard is as before, or it is the number of the guard request that is delivered
 abbrev pub GuardCase : State → Request → Store → ℕ → Type 0

@@ -8,8 +8,9 @@ use Prim.Native.Nat.{ℕ, _≤_, _<_, zero-le}
 use native.Mathlib.Omega.{arith}
 use Rattle.requests.specs.declared.Request.{Request}
 use Rattle.players.specs.Rules.{Cached, State, empty}
-use Rattle.linearizable.proofs.Facts.{In, Rising, bool-elim}
-use Rattle.linearizable.proofs.Invariant.{Inv, Live, GuardRequestOf, Clear, WriteOf, WouldCommit, RequestOk, Unused, Told, Fresh}
+use Rattle.linearizable.proofs.Tests.{bool-elim}
+use Rattle.linearizable.proofs.RequestLists.{In, Rising}
+use Rattle.linearizable.proofs.Invariant.{Clear, Fresh, GuardRequestOf, Inv, Live, RequestOk, Told, Unused, WouldCommit, WriteOf}
 
 -- a player's guard and cached result at one entry, before and after
 pub data Kept (g : ℕ) (c : Cached) : ℕ → Cached → Type 0 where

@@ -14,13 +14,15 @@ use Rattle.players.specs.declared.Step.{Step}
 use Rattle.requests.specs.declared.Request.{Request}
 use Rattle.requests.specs.Model.{any, keep, pending, is-guard-request, is-write, by, shares, writing, using-entry, new-request, mark-overlapped, mark-abandoned, serial-is, drop-request, requesting}
 use Rattle.players.specs.Rules.{Cached, Player, State, Result, empty, fresh, step, players, set-boundary, with-requests, with-store, with-player, set-owner, cleared, cleared-of, fresh-player, removed, live, request-guard, read-from-store, write, settled, restart-tablet, restart-player, grant, with-cached, drop-guard}
-use Rattle.linearizable.proofs.Facts.{In, Rising, clash, and-right, and-true, not-of, bool-elim, cond-elim, put-elim, fill-elim, put-same, fill-in, all-map, all-keep, any-none, rising-map, rising-keep, same-request, no-request}
-use Rattle.linearizable.proofs.Invariant.{Inv, Live, GuardRequestOf, Clear, WriteOf, WouldCommit, Told, sole}
-use Rattle.linearizable.proofs.StepCases.{ByCase, Undelivered, Answerable, StillOwned, MayCache, CacheHit, step-elim, after-delivery, marked}
-use Rattle.linearizable.proofs.QuietChange.{From, Kept, same, cleared as all-gone, emptied, quiet-keeps}
-use Rattle.linearizable.proofs.AddRequest.{add-keeps}
-use Rattle.linearizable.proofs.Delivery.{deliver-keeps}
-use Rattle.linearizable.proofs.Response.{grant-keeps, with-cached-keeps, with-cached-held}
+use Rattle.linearizable.proofs.Tests.{and-right, and-true, bool-elim, clash, cond-elim, fill-elim, fill-in, not-of, put-elim, put-same}
+use Rattle.linearizable.proofs.RequestLists.{all-keep, all-map, any-none, In, no-request, Rising, rising-keep, rising-map, same-request}
+use Rattle.linearizable.proofs.Invariant.{Clear, GuardRequestOf, Inv, Live, sole, Told, WouldCommit, WriteOf}
+use Rattle.linearizable.proofs.StepCases.{after-delivery, Answerable, ByCase, CacheHit, marked, MayCache, step-elim, StillOwned, Undelivered}
+use Rattle.linearizable.proofs.KeptByClearing.{cleared as all-gone, emptied, From, Kept, quiet-keeps, same}
+use Rattle.linearizable.proofs.KeptByAdding.{add-keeps}
+use Rattle.linearizable.proofs.KeptByDelivering.{deliver-keeps}
+use Rattle.linearizable.proofs.KeptByGranting.{grant-keeps}
+use Rattle.linearizable.proofs.KeptByCaching.{with-cached-held, with-cached-keeps}
 
 abbrev pub Keeps : Result → Type 0
 Keeps x = Inv (x .state)
