@@ -9,12 +9,12 @@ use Rattle.requests.specs.declared.Request.{Request}
 use Rattle.players.specs.Rules.{Cached, State, Player, with-cached}
 use Rattle.linearizable.proofs.Tests.{put-elim}
 use Rattle.linearizable.proofs.RequestLists.{In}
-use Rattle.linearizable.proofs.Invariant.{Fresh, Inv, Live, WouldCommit}
+use Rattle.linearizable.proofs.Invariant.{CachedCurrent, Inv, Live, WouldCommit}
 
-pub record Worthy (s : State) (p x : ℕ) (c : Cached) : Type 0 where
+pub record Cacheable (s : State) (p x : ℕ) (c : Cached) : Type 0 where
   pub issued : c .guard ≤ s .last
   pub request : (r : Request) → In r (s .requests) → r .kind ≡ 3 → c .guard ≢ r .serial
-  pub fresh : Fresh s c x
+  pub fresh : CachedCurrent s c x
 
 -- a cached result d of player q at entry e is as before, or it is the one cached
 abbrev CachedCase : State → ℕ → ℕ → Cached → ℕ → ℕ → Cached → Type 0
@@ -32,28 +32,28 @@ with-cached-held s p x c q e =
     (λ z. ap (λ (k : ℕ). s .player k .held e) (sym z))
     (λ z. refl)
 
-module _ (s : State) (p x : ℕ) (c : Cached) (i : Inv s) (v : Worthy s p x c) where
-  m-would-commit : (w : Request) (e : ℕ) → WouldCommit (with-cached s p x c) w e → WouldCommit s w e
-  m-would-commit w e a = record { kind = a .kind; low = a .low; away = a .away; guard = a .guard }
+module _ (s : State) (p x : ℕ) (c : Cached) (i : Inv s) (v : Cacheable s p x c) where
+  caching-would-commit : (w : Request) (e : ℕ) → WouldCommit (with-cached s p x c) w e → WouldCommit s w e
+  caching-would-commit w e a = record { kind = a .kind; low = a .low; undelivered = a .undelivered; guard = a .guard }
 
-  m-live : (q e : ℕ) → Live (with-cached s p x c) q e → Live s q e
-  m-live q e l =
+  caching-live : (q e : ℕ) → Live (with-cached s p x c) q e → Live s q e
+  caching-live q e l =
       let g = with-cached-held s p x c q e in
       let k = l .epoch in
       record { set = λ z. l .set (g ∙ z); owner = l .owner; epoch = omega arith }
 
-  m-caches : (q e : ℕ) (d : Cached) → CachedCase s p x c q e d → d .guard ≤ s .last
-  m-caches q e d (inl z) = subst (λ (y : Cached). y .guard ≤ s .last) (sym z) (i .caches q e)
-  m-caches q e d (inr z) = subst (λ (y : Cached). y .guard ≤ s .last) (sym (z .1)) (v .issued)
+  caching-bound : (q e : ℕ) (d : Cached) → CachedCase s p x c q e d → d .guard ≤ s .last
+  caching-bound q e d (inl z) = subst (λ (y : Cached). y .guard ≤ s .last) (sym z) (i .caches q e)
+  caching-bound q e d (inr z) = subst (λ (y : Cached). y .guard ≤ s .last) (sym (z .1)) (v .issued)
 
-  m-unused : (r : Request) → In r (s .requests) → r .kind ≡ 3 → (q e : ℕ) (d : Cached) → CachedCase s p x c q e d → d .guard ≢ r .serial
-  m-unused r m k q e d (inl z) h = i .unused r m k .cached q e (ap (λ (y : Cached). y .guard) (sym z) ∙ h)
-  m-unused r m k q e d (inr z) h = v .request r m k (ap (λ (y : Cached). y .guard) (sym (z .1)) ∙ h)
+  caching-unused : (r : Request) → In r (s .requests) → r .kind ≡ 3 → (q e : ℕ) (d : Cached) → CachedCase s p x c q e d → d .guard ≢ r .serial
+  caching-unused r m k q e d (inl z) h = i .unused r m k .cached q e (ap (λ (y : Cached). y .guard) (sym z) ∙ h)
+  caching-unused r m k q e d (inr z) h = v .request r m k (ap (λ (y : Cached). y .guard) (sym (z .1)) ∙ h)
 
-  m-cached : (q e : ℕ) (d : Cached) → CachedCase s p x c q e d → d .guard ≡ s .player q .held e → Live s q e → Fresh s d e
-  m-cached q e d (inl z) h l =
-      subst (λ (y : Cached). Fresh s y e) (sym z) (i .cached q e (ap (λ (y : Cached). y .guard) (sym z) ∙ h) l)
-  m-cached q e d (inr z) h l = subst (λ (y : Cached). Fresh s y e) (sym (z .1)) (subst (Fresh s c) (sym (z .0)) (v .fresh))
+  caching-current : (q e : ℕ) (d : Cached) → CachedCase s p x c q e d → d .guard ≡ s .player q .held e → Live s q e → CachedCurrent s d e
+  caching-current q e d (inl z) h l =
+      subst (λ (y : Cached). CachedCurrent s y e) (sym z) (i .cached q e (ap (λ (y : Cached). y .guard) (sym z) ∙ h) l)
+  caching-current q e d (inr z) h l = subst (λ (y : Cached). CachedCurrent s y e) (sym (z .1)) (subst (CachedCurrent s c) (sym (z .0)) (v .fresh))
 
   pub with-cached-keeps : Inv (with-cached s p x c)
   with-cached-keeps =
@@ -61,20 +61,20 @@ module _ (s : State) (p x : ℕ) (c : Cached) (i : Inv s) (v : Worthy s p x c) w
         rising = i .rising;
         request = i .request;
         guards = λ q e. let g = with-cached-held s p x c q e in let b = i .guards q e in omega arith;
-        caches = λ q e. m-caches q e (with-cached s p x c .player q .cached e) (cached-case s p x c q e);
+        caches = λ q e. caching-bound q e (with-cached s p x c .player q .cached e) (cached-case s p x c q e);
         requested = λ r q e m a. with-cached-held s p x c q e ∙ i .requested r q e m a;
         apart = i .apart;
-        settled = λ r w q e m j a b o u d z. i .settled r w q e m j a b o u d (m-would-commit w e z);
+        settled = λ r w q e m j a b o u d z. i .settled r w q e m j a b o u d (caching-would-commit w e z);
         unused = λ r m k.
             let u = i .unused r m k in
-            record { guard = λ q e z. u .guard q e (sym (with-cached-held s p x c q e) ∙ z); cached = λ q e. m-unused r m k q e (with-cached s p x c .player q .cached e) (cached-case s p x c q e); request = u .request };
-        by-owner = λ w q e m l a. let k = i .by-owner w q e m (m-live q e l) (m-would-commit w e a) in (k .0, k .1 ∙ sym (with-cached-held s p x c q e));
+            record { guard = λ q e z. u .guard q e (sym (with-cached-held s p x c q e) ∙ z); cached = λ q e. caching-unused r m k q e (with-cached s p x c .player q .cached e) (cached-case s p x c q e); request = u .request };
+        by-owner = λ w q e m l a. let k = i .by-owner w q e m (caching-live q e l) (caching-would-commit w e a) in (k .0, k .1 ∙ sym (with-cached-held s p x c q e));
         alone = i .alone;
         dropped = λ w q e m k h d z. i .dropped w q e m k h d (sym (with-cached-held s p x c q e) ∙ z);
-        told = λ r q e m y a h l.
-            let k = i .told r q e m y a (h ∙ with-cached-held s p x c q e) (m-live q e l) in
+        current = λ r q e m y a h l.
+            let k = i .current r q e m y a (h ∙ with-cached-held s p x c q e) (caching-live q e l) in
             record { read-version = k .read-version; read-value = k .read-value; write-version = k .write-version; write-value = k .write-value };
         cached = λ q e h l.
-            let k = m-cached q e (with-cached s p x c .player q .cached e) (cached-case s p x c q e) (h ∙ with-cached-held s p x c q e) (m-live q e l) in
-            record { version = k .version; value = k .value; still = λ w m a. k .still w m (m-would-commit w e a) };
+            let k = caching-current q e (with-cached s p x c .player q .cached e) (cached-case s p x c q e) (h ∙ with-cached-held s p x c q e) (caching-live q e l) in
+            record { version = k .version; value = k .value; no-commit = λ w m a. k .no-commit w m (caching-would-commit w e a) };
       }

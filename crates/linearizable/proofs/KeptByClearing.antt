@@ -1,5 +1,5 @@
--- The first sort of change: nothing new is requested, sent, set at the store, granted or cached. Guards and cached results may be
--- cleared, requests may leave, be overlapped or be abandoned, entries may change owner, the store's guards may become 0.
+-- The invariant is kept where nothing new is requested, delivered, granted or cached: guards and cached values may be cleared, requests may leave, be overlapped or
+-- be abandoned, entries may change owner, the store's guards may become 0 (steps 1, 2, 8 to 13, and parts of the others).
 -- Assumes nothing.
 use mathlib.Core.Path.{_≡_, refl, sym, _∙_, ap}
 use mathlib.Core.Logic.{_≢_}
@@ -10,35 +10,35 @@ use Rattle.requests.specs.declared.Request.{Request}
 use Rattle.players.specs.Rules.{Cached, State, empty}
 use Rattle.linearizable.proofs.Tests.{bool-elim}
 use Rattle.linearizable.proofs.RequestLists.{In, Rising}
-use Rattle.linearizable.proofs.Invariant.{Clear, Fresh, GuardRequestOf, Inv, Live, RequestOk, Told, Unused, WouldCommit, WriteOf}
+use Rattle.linearizable.proofs.Invariant.{Undisturbed, CachedCurrent, GuardRequestOf, Inv, Live, RequestOk, Current, Unused, WouldCommit, WriteOf}
 
 -- a player's guard and cached result at one entry, before and after
-pub data Kept (g : ℕ) (c : Cached) : ℕ → Cached → Type 0 where
-  same : Kept g c g c
-  cleared : Kept g c 0 empty
-  emptied : Kept g c g empty
+pub data KeptOrCleared (g : ℕ) (c : Cached) : ℕ → Cached → Type 0 where
+  same : KeptOrCleared g c g c
+  cleared : KeptOrCleared g c 0 empty
+  emptied : KeptOrCleared g c g empty
 
-pub kept-guard : {g : ℕ} {c : Cached} {g′ : ℕ} {c′ : Cached} → Kept g c g′ c′ → g′ ≢ 0 → g′ ≡ g
+pub kept-guard : {g : ℕ} {c : Cached} {g′ : ℕ} {c′ : Cached} → KeptOrCleared g c g′ c′ → g′ ≢ 0 → g′ ≡ g
 kept-guard same h = refl
 kept-guard cleared h = absurd (h refl)
 kept-guard emptied h = refl
 
-pub kept-cached : {g : ℕ} {c : Cached} {g′ : ℕ} {c′ : Cached} → Kept g c g′ c′ → c′ .guard ≢ 0 → c′ ≡ c
+pub kept-cached : {g : ℕ} {c : Cached} {g′ : ℕ} {c′ : Cached} → KeptOrCleared g c g′ c′ → c′ .guard ≢ 0 → c′ ≡ c
 kept-cached same h = refl
 kept-cached cleared h = absurd (h refl)
 kept-cached emptied h = absurd (h refl)
 
-pub kept-zero : {g : ℕ} {c : Cached} {g′ : ℕ} {c′ : Cached} → Kept g c g′ c′ → g ≡ 0 → g′ ≡ 0
+pub kept-zero : {g : ℕ} {c : Cached} {g′ : ℕ} {c′ : Cached} → KeptOrCleared g c g′ c′ → g ≡ 0 → g′ ≡ 0
 kept-zero same h = h
 kept-zero cleared h = refl
 kept-zero emptied h = h
 
-pub kept-bound : {g : ℕ} {c : Cached} {g′ : ℕ} {c′ : Cached} → Kept g c g′ c′ → (n m : ℕ) → n ≤ m → g ≤ n → g′ ≤ m
+pub kept-bound : {g : ℕ} {c : Cached} {g′ : ℕ} {c′ : Cached} → KeptOrCleared g c g′ c′ → (n m : ℕ) → n ≤ m → g ≤ n → g′ ≤ m
 kept-bound same n m k h = omega arith
 kept-bound cleared n m k h = zero-le
 kept-bound emptied n m k h = omega arith
 
-pub kept-cached-bound : {g : ℕ} {c : Cached} {g′ : ℕ} {c′ : Cached} → Kept g c g′ c′ → (n m : ℕ) → n ≤ m → c .guard ≤ n → c′ .guard ≤ m
+pub kept-cached-bound : {g : ℕ} {c : Cached} {g′ : ℕ} {c′ : Cached} → KeptOrCleared g c g′ c′ → (n m : ℕ) → n ≤ m → c .guard ≤ n → c′ .guard ≤ m
 kept-cached-bound same n m k h = omega arith
 kept-cached-bound cleared n m k h = zero-le
 kept-cached-bound emptied n m k h = zero-le
@@ -60,14 +60,14 @@ pub record From (s t : State) (r : Request) : Type 0 where
   pub clear : r .overlapped ≡ false → was .overlapped ≡ false
   pub pending : r .abandoned ≡ false → was .abandoned ≡ false
   -- abandoned: before, or now and then it is not delivered and a write's guard is cleared
-  pub away : r .abandoned ≡ true → was .abandoned ≡ false → r .delivered ≡ false
+  pub undelivered : r .abandoned ≡ true → was .abandoned ≡ false → r .delivered ≡ false
   pub dropped : r .abandoned ≡ true → was .abandoned ≡ false → r .kind ≡ 5 → (e : ℕ) → t .player (r .player) .held e ≢ r .guard
 
 pub record Quiet (s t : State) : Type 0 where
   pub last : s .last ≤ t .last
   pub rises : Rising 0 (s .requests) → Rising 0 (t .requests)
   pub requests : (r : Request) → In r (t .requests) → From s t r
-  pub players : (p e : ℕ) → Kept (s .player p .held e) (s .player p .cached e) (t .player p .held e) (t .player p .cached e)
+  pub players : (p e : ℕ) → KeptOrCleared (s .player p .held e) (s .player p .cached e) (t .player p .held e) (t .player p .cached e)
   -- an entry whose epoch is below a serial issued before has its owner and epoch from before
   pub owner : (e n : ℕ) → t .owners .epoch e < n → n ≤ s .last → t .owners .owner e ≡ s .owners .owner e
   pub epoch : (e n : ℕ) → t .owners .epoch e < n → n ≤ s .last → t .owners .epoch e ≡ s .owners .epoch e
@@ -89,8 +89,8 @@ module _ (s t : State) (i : Inv s) (q : Quiet s t) where
   guard-request-back r f p e a =
       record { kind = f .kind ∙ a .kind; player = f .player ∙ a .player; low = omega arith; high = omega arith; pending = f .pending (a .pending) }
 
-  clear-back : (r : Request) (f : From s t r) (p e : ℕ) → Clear r p e → Clear (f .was) p e
-  clear-back r f p e a =
+  undisturbed-back : (r : Request) (f : From s t r) (p e : ℕ) → Undisturbed r p e → Undisturbed (f .was) p e
+  undisturbed-back r f p e a =
       record { kind = λ z. a .kind (sym (f .kind) ∙ z); player = f .player ∙ a .player; low = f .low ∙ a .low; pending = f .pending (a .pending); clear = f .clear (a .clear) }
 
   write-back : (r : Request) (f : From s t r) (p e : ℕ) → WriteOf r p e → WriteOf (f .was) p e
@@ -100,7 +100,7 @@ module _ (s t : State) (i : Inv s) (q : Quiet s t) where
   would-commit-back : (r : Request) (f : From s t r) (e : ℕ) → WouldCommit t r e → WouldCommit s (f .was) e
   would-commit-back r f e a =
       let k = i .request (f .was) (f .member) .write (f .kind ∙ a .kind) in
-      record { kind = f .kind ∙ a .kind; low = f .low ∙ a .low; away = f .delivered ∙ a .away; guard = f .guard ∙ a .guard ∙ q .guard e (λ z. k (f .guard ∙ a .guard ∙ z)) }
+      record { kind = f .kind ∙ a .kind; low = f .low ∙ a .low; undelivered = f .delivered ∙ a .undelivered; guard = f .guard ∙ a .guard ∙ q .guard e (λ z. k (f .guard ∙ a .guard ∙ z)) }
 
   quiet-request : (r : Request) → In r (t .requests) → RequestOk (t .last) r
   quiet-request r m =
@@ -112,7 +112,7 @@ module _ (s t : State) (i : Inv s) (q : Quiet s t) where
         issued = omega arith;
         guard = omega arith;
         write = λ e z. k .write (f .kind ∙ e) (f .guard ∙ z);
-        away = λ g. bool-elim (f .was .abandoned) (λ h. sym (f .delivered) ∙ k .away h) (λ h. f .away g h);
+        undelivered = λ g. bool-elim (f .was .abandoned) (λ h. sym (f .delivered) ∙ k .undelivered h) (λ h. f .undelivered g h);
         least = omega arith;
         most = omega arith;
       }
@@ -130,11 +130,11 @@ module _ (s t : State) (i : Inv s) (q : Quiet s t) where
         request = λ x j z. let g = q .requests x j in u .request (g .was) (g .member) (g .guard ∙ z ∙ sym b);
       }
 
-  quiet-told : (r : Request) (p e : ℕ) → In r (t .requests) → Clear r p e → r .delivered ≡ true → r .guard ≡ t .player p .held e → Live t p e → Told t r e
-  quiet-told r p e m c a g l =
+  quiet-current : (r : Request) (p e : ℕ) → In r (t .requests) → Undisturbed r p e → r .delivered ≡ true → r .guard ≡ t .player p .held e → Live t p e → Current t r e
+  quiet-current r p e m c a g l =
       let f = q .requests r m in
       let x = kept-guard (q .players p e) (l .set) in
-      let k = i .told (f .was) p e (f .member) (clear-back r f p e c) (f .delivered ∙ a) (f .guard ∙ g ∙ x) (live-back p e l) in
+      let k = i .current (f .was) p e (f .member) (undisturbed-back r f p e c) (f .delivered ∙ a) (f .guard ∙ g ∙ x) (live-back p e l) in
       let u = q .version e in
       let v = q .value e in
       record {
@@ -144,7 +144,7 @@ module _ (s t : State) (i : Inv s) (q : Quiet s t) where
         write-value = λ h o. sym (f .value) ∙ k .write-value (f .kind ∙ h) (f .first ∙ o) ∙ sym v;
       }
 
-  quiet-cached : (p e : ℕ) → t .player p .cached e .guard ≡ t .player p .held e → Live t p e → Fresh t (t .player p .cached e) e
+  quiet-cached : (p e : ℕ) → t .player p .cached e .guard ≡ t .player p .held e → Live t p e → CachedCurrent t (t .player p .cached e) e
   quiet-cached p e h l =
       let g = kept-guard (q .players p e) (l .set) in
       let c : t .player p .cached e ≡ s .player p .cached e = kept-cached (q .players p e) (λ z. l .set (sym h ∙ z)) in
@@ -152,7 +152,7 @@ module _ (s t : State) (i : Inv s) (q : Quiet s t) where
       record {
         version = ap (λ (x : Cached). x .version) c ∙ k .version ∙ sym (q .version e);
         value = ap (λ (x : Cached). x .value) c ∙ k .value ∙ sym (q .value e);
-        still = λ w j a. let f = q .requests w j in k .still (f .was) (f .member) (would-commit-back w f e a);
+        no-commit = λ w j a. let f = q .requests w j in k .no-commit (f .was) (f .member) (would-commit-back w f e a);
       }
 
   pub quiet-keeps : Inv t
@@ -179,13 +179,13 @@ module _ (s t : State) (i : Inv s) (q : Quiet s t) where
         alone = λ r w p e m n a b.
             let f = q .requests r m in
             let g = q .requests w n in
-            sym (f .serial) ∙ i .alone (f .was) (g .was) p e (f .member) (g .member) (clear-back r f p e a) (write-back w g p e b) ∙ g .serial;
+            sym (f .serial) ∙ i .alone (f .was) (g .was) p e (f .member) (g .member) (undisturbed-back r f p e a) (write-back w g p e b) ∙ g .serial;
         dropped = λ w p e m k h g z.
             let f = q .requests w m in
             let a = i .request (f .was) (f .member) .write (f .kind ∙ k) in
             bool-elim (f .was .abandoned)
             (λ b. i .dropped (f .was) p e (f .member) (f .kind ∙ k) (f .player ∙ h) b (sym (kept-guard (q .players p e) (λ y. a (f .guard ∙ sym z ∙ y))) ∙ z ∙ sym (f .guard)))
             (λ b. f .dropped g b k e (rw h z));
-        told = quiet-told;
+        current = quiet-current;
         cached = quiet-cached;
       }

@@ -1,4 +1,4 @@
--- The third sort of change: a request is delivered at the store (step 6).
+-- The invariant is kept where a request is delivered at the store (step 6).
 -- Assumes nothing.
 use mathlib.Core.Path.{_≡_, refl, sym, _∙_, subst}
 use mathlib.Core.Logic.{_≢_, _⊎_, inl, inr}
@@ -12,7 +12,7 @@ use Rattle.requests.specs.Model.{mark-delivered, serial-is, drop-request, chang
 use Rattle.players.specs.Rules.{State}
 use Rattle.linearizable.proofs.Tests.{clash, cond-elim}
 use Rattle.linearizable.proofs.RequestLists.{all-keep, all-map, In, Rising, rising-keep, rising-map, same-request}
-use Rattle.linearizable.proofs.Invariant.{Clear, Fresh, GuardRequestOf, Inv, Live, RequestOk, sole, Told, Unused, WouldCommit, WriteOf}
+use Rattle.linearizable.proofs.Invariant.{Undisturbed, CachedCurrent, GuardRequestOf, Inv, Live, RequestOk, sole-commit, Current, Unused, WouldCommit, WriteOf}
 use Rattle.linearizable.proofs.StepCases.{after-delivery, requests-after-delivery}
 
 -- the entry's guard is as before, or it is the number of the guard request that is delivered
@@ -25,11 +25,11 @@ ValueCase s r st e = ((st .version e ≡ s .store .version e) × (st .value e �
 
 pub record Delivery (s : State) (r : Request) (st : Store) (a b : ℕ) : Type 0 where
   pub member : In r (s .requests)
-  pub away : r .delivered ≡ false
+  pub undelivered : r .delivered ≡ false
   pub guard : (e : ℕ) → GuardCase s r st e
   pub value : (e : ℕ) → ValueCase s r st e
   pub set : r .kind ≡ 3 → a ≡ 1 → (e : ℕ) → r .low ≤ e → e < r .high → st .guard e ≡ r .serial
-  pub told : Told (after-delivery s r st a b) (mark-delivered a b r) (r .low)
+  pub current : Current (after-delivery s r st a b) (mark-delivered a b r) (r .low)
 
 data AfterDelivery (rs : List Request) (r : Request) (a b : ℕ) : Request → Type 0 where
   other : {q : Request} → In q rs → q .serial ≢ r .serial → AfterDelivery rs r a b q
@@ -56,9 +56,9 @@ module _ (s : State) (r : Request) (st : Store) (a b : ℕ) (i : Inv s) (v : Del
 
   -- a write that would commit after would have committed before: the new guard of an entry is carried by no request
   would-commit-back : (x : Request) (e : ℕ) → AfterDelivery (s .requests) r a b x → GuardCase s r st e → WouldCommit (after-delivery s r st a b) x e → In x (s .requests) × WouldCommit s x e
-  would-commit-back x e (other j h) (inl g) z = (j, record { kind = z .kind; low = z .low; away = z .away; guard = z .guard ∙ g })
+  would-commit-back x e (other j h) (inl g) z = (j, record { kind = z .kind; low = z .low; undelivered = z .undelivered; guard = z .guard ∙ g })
   would-commit-back x e (other j h) (inr g) z = absurd (i .unused r (v .member) (g .0) .request x j (z .guard ∙ g .1))
-  would-commit-back x e (itself g) c z = clash refl (z .away)
+  would-commit-back x e (itself g) c z = clash refl (z .undelivered)
 
   would-commit : (x : Request) (e : ℕ) → In x (requests-after-delivery s r a b) → WouldCommit (after-delivery s r st a b) x e → In x (s .requests) × WouldCommit s x e
   would-commit x e m z = would-commit-back x e (request-case x m) (v .guard e) z
@@ -67,14 +67,14 @@ module _ (s : State) (r : Request) (st : Store) (a b : ℕ) (i : Inv s) (v : Del
   deliver-request x (other j h) = i .request x j
   deliver-request x (itself g) =
       let k = i .request r (v .member) in
-      record { first = k .first; issued = k .issued; guard = k .guard; write = k .write; away = λ z. clash z g; least = k .least; most = k .most }
+      record { first = k .first; issued = k .issued; guard = k .guard; write = k .write; undelivered = λ z. clash z g; least = k .least; most = k .most }
 
   -- a request of the state after has, but for its delivery, a request of the state before
   guard-request-back : (p e : ℕ) → GuardRequestOf (mark-delivered a b r) p e → GuardRequestOf r p e
   guard-request-back p e x = record { kind = x .kind; player = x .player; low = x .low; high = x .high; pending = x .pending }
 
-  clear-back : (p e : ℕ) → Clear (mark-delivered a b r) p e → Clear r p e
-  clear-back p e x = record { kind = x .kind; player = x .player; low = x .low; pending = x .pending; clear = x .clear }
+  undisturbed-back : (p e : ℕ) → Undisturbed (mark-delivered a b r) p e → Undisturbed r p e
+  undisturbed-back p e x = record { kind = x .kind; player = x .player; low = x .low; pending = x .pending; clear = x .clear }
 
   write-back : (p e : ℕ) → WriteOf (mark-delivered a b r) p e → WriteOf r p e
   write-back p e x = record { kind = x .kind; player = x .player; low = x .low; pending = x .pending }
@@ -105,28 +105,28 @@ module _ (s : State) (r : Request) (st : Store) (a b : ℕ) (i : Inv s) (v : Del
       let u = i .unused r (v .member) k in
       record { guard = u .guard; cached = u .cached; request = λ y m. used-request (r .serial) u y (request-case y m) }
 
-  deliver-alone : (x y : Request) (p e : ℕ) → AfterDelivery (s .requests) r a b x → AfterDelivery (s .requests) r a b y → Clear x p e → WriteOf y p e → x .serial ≡ y .serial
+  deliver-alone : (x y : Request) (p e : ℕ) → AfterDelivery (s .requests) r a b x → AfterDelivery (s .requests) r a b y → Undisturbed x p e → WriteOf y p e → x .serial ≡ y .serial
   deliver-alone x y p e (other m h) (other j k) c d = i .alone x y p e m j c d
   deliver-alone x y p e (other m h) (itself g) c d = i .alone x r p e m (v .member) c (write-back p e d)
-  deliver-alone x y p e (itself g) (other j k) c d = i .alone r y p e (v .member) j (clear-back p e c) d
+  deliver-alone x y p e (itself g) (other j k) c d = i .alone r y p e (v .member) j (undisturbed-back p e c) d
   deliver-alone x y p e (itself g) (itself k) c d = refl
 
   deliver-dropped : (x : Request) (p e : ℕ) → AfterDelivery (s .requests) r a b x → x .kind ≡ 5 → x .player ≡ p → x .abandoned ≡ true → s .player p .held e ≢ x .guard
   deliver-dropped x p e (other j h) k y g = i .dropped x p e j k y g
   deliver-dropped x p e (itself h) k y g = clash g h
 
-  deliver-told : (x : Request) (p e : ℕ) → AfterDelivery (s .requests) r a b x → ValueCase s r st e → Clear x p e → x .delivered ≡ true → x .guard ≡ s .player p .held e → Live s p e → Told (after-delivery s r st a b) x e
-  deliver-told x p e (other j h) (inl n) c d g l =
-      let k = i .told x p e j c d g l in
+  deliver-current : (x : Request) (p e : ℕ) → AfterDelivery (s .requests) r a b x → ValueCase s r st e → Undisturbed x p e → x .delivered ≡ true → x .guard ≡ s .player p .held e → Live s p e → Current (after-delivery s r st a b) x e
+  deliver-current x p e (other j h) (inl n) c d g l =
+      let k = i .current x p e j c d g l in
       record { read-version = λ y. k .read-version y ∙ sym (n .0); read-value = λ y. k .read-value y ∙ sym (n .1); write-version = λ y o. k .write-version y o ∙ sym (n .0); write-value = λ y o. k .write-value y o ∙ sym (n .1) }
-  deliver-told x p e (other j h) (inr n) c d g l = absurd (h (sole s i x r p e j (v .member) c l (n .0)))
-  deliver-told x p e (itself h) n c d g l = subst (λ (y : ℕ). Told (after-delivery s r st a b) (mark-delivered a b r) y) (c .low) (v .told)
+  deliver-current x p e (other j h) (inr n) c d g l = absurd (h (sole-commit s i x r p e j (v .member) c l (n .0)))
+  deliver-current x p e (itself h) n c d g l = subst (λ (y : ℕ). Current (after-delivery s r st a b) (mark-delivered a b r) y) (c .low) (v .current)
 
-  deliver-cached : (p e : ℕ) → ValueCase s r st e → s .player p .cached e .guard ≡ s .player p .held e → Live s p e → Fresh (after-delivery s r st a b) (s .player p .cached e) e
+  deliver-cached : (p e : ℕ) → ValueCase s r st e → s .player p .cached e .guard ≡ s .player p .held e → Live s p e → CachedCurrent (after-delivery s r st a b) (s .player p .cached e) e
   deliver-cached p e (inl n) h l =
       let k = i .cached p e h l in
-      record { version = k .version ∙ sym (n .0); value = k .value ∙ sym (n .1); still = λ w m z. let y = would-commit w e m z in k .still w (y .0) (y .1) }
-  deliver-cached p e (inr n) h l = absurd (i .cached p e h l .still r (v .member) (n .0))
+      record { version = k .version ∙ sym (n .0); value = k .value ∙ sym (n .1); no-commit = λ w m z. let y = would-commit w e m z in k .no-commit w (y .0) (y .1) }
+  deliver-cached p e (inr n) h l = absurd (i .cached p e h l .no-commit r (v .member) (n .0))
 
   pub deliver-keeps : Inv (after-delivery s r st a b)
   deliver-keeps =
@@ -142,6 +142,6 @@ module _ (s : State) (r : Request) (st : Store) (a b : ℕ) (i : Inv s) (v : Del
         by-owner = λ w p e m l z. let k = would-commit w e m z in i .by-owner w p e (k .0) (live-back p e l) (k .1);
         alone = λ x y p e m j. deliver-alone x y p e (request-case x m) (request-case y j);
         dropped = λ x p e m. deliver-dropped x p e (request-case x m);
-        told = λ x p e m c d g l. deliver-told x p e (request-case x m) (v .value e) c d g (live-back p e l);
+        current = λ x p e m c d g l. deliver-current x p e (request-case x m) (v .value e) c d g (live-back p e l);
         cached = λ p e h l. deliver-cached p e (v .value e) h (live-back p e l);
       }

@@ -9,7 +9,7 @@ use Rattle.requests.specs.declared.Request.{Request}
 use Rattle.requests.specs.Model.{any, keep, find}
 use Rattle.linearizable.proofs.Tests.{cond-elim, or-left, or-right}
 
--- Requests in a list
+-- ---- requests in a list
 
 pub data In (r : Request) : List Request → Type 0 where
   here : {rs : List Request} → In r (r ∷ rs)
@@ -47,7 +47,7 @@ find-elim P f [] none some p h = p
 find-elim P f (q ∷ rs) none some p h =
     cond-elim P (f q) (some q) (find f rs none some) (h q here) (λ t. find-elim P f rs none some p (λ r i. h r (there i)))
 
--- Rising serials
+-- ---- rising serials
 
 abbrev pub Rising : ℕ → List Request → Type 0
 Rising n [] = Unit {0}

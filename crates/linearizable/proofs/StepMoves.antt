@@ -22,13 +22,13 @@ use Rattle.linearizable.specs.Ledger.{Event, Item, Ledger, Note, add-not
 use Rattle.linearizable.specs.Claim.{answered, beginning, count, no-response, nothing, response}
 use Rattle.linearizable.proofs.Tests.{and-right, cond-elim, cond-true}
 use Rattle.linearizable.proofs.RequestLists.{In, same-request}
-use Rattle.linearizable.proofs.Standing.{on-cons}
+use Rattle.linearizable.proofs.Standing.{count-same, count-zero, on-cons}
 use Rattle.linearizable.proofs.Invariant.{Inv, Live}
 use Rattle.linearizable.proofs.StepCases.{Answerable, ByCase, CacheHit, step-elim, Undelivered}
 use Rattle.linearizable.proofs.KeptByStep.{cached-is-store}
 use Rattle.linearizable.proofs.Flights.{flight, Flight, in-append, in-change, in-drop, in-keep, in-map, InFlight, note-of, noted-guard-request, noted-read, noted-write, settle}
 use Rattle.linearizable.proofs.Simulation.{AnswerNote, Carries, Gave, GrantFact, Held, Move, OutcomeNote, ResponseFact, Sim, Spent}
-use Rattle.linearizable.proofs.SimulationKept.{count-same, count-zero, fence-stays, spent-stays}
+use Rattle.linearizable.proofs.SimulationKept.{fence-stays, spent-stays}
 use Rattle.linearizable.proofs.Moves.{begin-move, cache-read-move, Cleared, deliver-move, Fewer, held-stays, none-yet, quiet-move, subset-grows, subset-move}
 
 -- one player's guards set anew, each as it was or 0

@@ -11,7 +11,7 @@ use Rattle.store.specs.Model.{put, fill, within}
 use Rattle.players.specs.Replies.{refusal}
 use Rattle.players.specs.Rules.{State, Result, check, every}
 
--- Tests
+-- ---- tests
 
 pub and-left : (a b : Bool) → (a && b) ≡ true → a ≡ true
 and-left true b h = refl
