@@ -18,27 +18,27 @@ pub data KeptOrCleared (g : ℕ) (c : Cached) : ℕ → Cached → Type 0 where
   cleared : KeptOrCleared g c 0 empty
   emptied : KeptOrCleared g c g empty
 
-pub kept-guard : {g : ℕ} {c : Cached} {g′ : ℕ} {c′ : Cached} → KeptOrCleared g c g′ c′ → g′ ≢ 0 → g′ ≡ g
+kept-guard : {g : ℕ} {c : Cached} {g′ : ℕ} {c′ : Cached} → KeptOrCleared g c g′ c′ → g′ ≢ 0 → g′ ≡ g
 kept-guard same h = refl
 kept-guard cleared h = absurd (h refl)
 kept-guard emptied h = refl
 
-pub kept-cached : {g : ℕ} {c : Cached} {g′ : ℕ} {c′ : Cached} → KeptOrCleared g c g′ c′ → c′ .guard ≢ 0 → c′ ≡ c
+kept-cached : {g : ℕ} {c : Cached} {g′ : ℕ} {c′ : Cached} → KeptOrCleared g c g′ c′ → c′ .guard ≢ 0 → c′ ≡ c
 kept-cached same h = refl
 kept-cached cleared h = absurd (h refl)
 kept-cached emptied h = absurd (h refl)
 
-pub kept-zero : {g : ℕ} {c : Cached} {g′ : ℕ} {c′ : Cached} → KeptOrCleared g c g′ c′ → g ≡ 0 → g′ ≡ 0
+kept-zero : {g : ℕ} {c : Cached} {g′ : ℕ} {c′ : Cached} → KeptOrCleared g c g′ c′ → g ≡ 0 → g′ ≡ 0
 kept-zero same h = h
 kept-zero cleared h = refl
 kept-zero emptied h = h
 
-pub kept-bound : {g : ℕ} {c : Cached} {g′ : ℕ} {c′ : Cached} → KeptOrCleared g c g′ c′ → (n m : ℕ) → n ≤ m → g ≤ n → g′ ≤ m
+kept-bound : {g : ℕ} {c : Cached} {g′ : ℕ} {c′ : Cached} → KeptOrCleared g c g′ c′ → (n m : ℕ) → n ≤ m → g ≤ n → g′ ≤ m
 kept-bound same n m k h = omega arith
 kept-bound cleared n m k h = zero-le
 kept-bound emptied n m k h = omega arith
 
-pub kept-cached-bound : {g : ℕ} {c : Cached} {g′ : ℕ} {c′ : Cached} → KeptOrCleared g c g′ c′ → (n m : ℕ) → n ≤ m → c .guard ≤ n → c′ .guard ≤ m
+kept-cached-bound : {g : ℕ} {c : Cached} {g′ : ℕ} {c′ : Cached} → KeptOrCleared g c g′ c′ → (n m : ℕ) → n ≤ m → c .guard ≤ n → c′ .guard ≤ m
 kept-cached-bound same n m k h = omega arith
 kept-cached-bound cleared n m k h = zero-le
 kept-cached-bound emptied n m k h = zero-le

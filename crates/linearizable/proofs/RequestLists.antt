@@ -53,7 +53,7 @@ abbrev pub Rising : ℕ → List Request → Type 0
 Rising n [] = Unit {0}
 Rising n (r ∷ rs) = (n < r .serial) × Rising (r .serial) rs
 
-pub rising-weak : (n m : ℕ) (rs : List Request) → m ≤ n → Rising n rs → Rising m rs
+rising-weak : (n m : ℕ) (rs : List Request) → m ≤ n → Rising n rs → Rising m rs
 rising-weak n m [] h t = tt
 rising-weak n m (r ∷ rs) h t = let k = t .0 in (omega arith, t .1)
 
@@ -71,7 +71,7 @@ pub rising-append : (n m : ℕ) (rs : List Request) (q : Request) → Rising n r
 rising-append n m [] q t b h k = (omega arith, tt)
 rising-append n m (r ∷ rs) q t b h k = (t .0, rising-append (r .serial) m rs q (t .1) (λ x i. b x (there i)) (b r here) k)
 
-pub rising-above : (n : ℕ) (rs : List Request) → Rising n rs → (r : Request) → In r rs → n < r .serial
+rising-above : (n : ℕ) (rs : List Request) → Rising n rs → (r : Request) → In r rs → n < r .serial
 rising-above n (q ∷ rs) t r here = t .0
 rising-above n (q ∷ rs) t r (there i) = let a = t .0 in let b = rising-above (q .serial) rs (t .1) r i in omega arith
 

@@ -103,7 +103,7 @@ pub record ByCase (K : Step → Result → Type 0) (s : State) : Type 0 where
 
 -- ---- the tests of the rules as facts
 
-pub live-shown : (s : State) (p e : ℕ) → live s p e ≡ true → Live s p e
+live-shown : (s : State) (p e : ℕ) → live s p e ≡ true → Live s p e
 live-shown s p e h =
     let g = s .player p .held e in
     let a = not (eqb g 0) in
@@ -112,21 +112,21 @@ live-shown s p e h =
     let k = and-right a (b && c) h in
     record { set = eqb-false g 0 (not-true (eqb g 0) (and-left a (b && c) h)); owner = eqb-true (s .owners .owner e) p (and-left b c k); epoch = ltb-true (s .owners .epoch e) g (and-right b c k) }
 
-pub cache-hit-shown : (s : State) (p e : ℕ) → cache-hit s p e ≡ true → CacheHit s p e
+cache-hit-shown : (s : State) (p e : ℕ) → cache-hit s p e ≡ true → CacheHit s p e
 cache-hit-shown s p e h =
     let c = s .player p .cached e .guard in
     let g = s .player p .held e in
     let t = and-right (not (eqb c 0)) (eqb c g && live s p e) h in
     record { guard = eqb-true c g (and-left (eqb c g) (live s p e) t); live = live-shown s p e (and-right (eqb c g) (live s p e) t) }
 
-pub still-owned-shown : (s : State) (r : Request) → still-owned s r ≡ true → StillOwned s r
+still-owned-shown : (s : State) (r : Request) → still-owned s r ≡ true → StillOwned s r
 still-owned-shown s r h e a b =
     let own = owns s (r .player) e in
     let old = ltb (s .owners .epoch e) (r .serial) in
     let t = every-at (r .low) (r .high - r .low) (λ y. owns s (r .player) y && ltb (s .owners .epoch y) (r .serial)) e h a (omega arith) in
     (eqb-true (s .owners .owner e) (r .player) (and-left own old t), ltb-true (s .owners .epoch e) (r .serial) (and-right own old t))
 
-pub may-cache-shown : (s : State) (r : Request) → may-cache s r ≡ true → MayCache s r
+may-cache-shown : (s : State) (r : Request) → may-cache s r ≡ true → MayCache s r
 may-cache-shown s r t =
     let t0 = not (eqb (r .guard) 0) in
     let t1 = eqb (r .guard) (s .player (r .player) .held (r .low)) in
