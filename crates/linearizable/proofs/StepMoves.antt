@@ -18,7 +18,7 @@ use Rattle.requests.specs.declared.Request.{Request}
 use Rattle.players.specs.Replies.{done, refusal, store-read, committed, rejected, granted}
 use Rattle.requests.specs.Model.{any, by, change-request, drop-request, keep, mark-delivered, mark-abandoned, mark-overlapped, new-request, pending, using-entry, writing}
 use Rattle.players.specs.Rules.{Cached, Player, Result, State, cleared, cleared-of, deliver-read, empty, fresh-player, grant, live, read-from-cache, read-from-store, removed, request-guard, restart-player, set-owner, settled, step, with-cached, with-store, write}
-use Rattle.linearizable.specs.Ledger.{Event, Item, Ledger, Note, add-note, enter, event, record-grant, item, note-guard-request, note-read, note-write, numbered, set-store, take-effect, take-up}
+use Rattle.linearizable.specs.Ledger.{Event, Item, Ledger, Note, accepts, add-note, enter, event, record-grant, item, note-guard-request, note-read, note-write, numbered, set-store, sets, take-effect, take-up}
 use Rattle.linearizable.specs.Claim.{answered, beginning, count, no-response, nothing, response}
 use Rattle.linearizable.proofs.Tests.{and-right, cond-elim, cond-true}
 use Rattle.linearizable.proofs.RequestLists.{In, same-request}
@@ -198,7 +198,8 @@ module _ {h : List Event} {s : State} {l : Ledger} (sim : Sim h s l) (inv : Inv 
       abbrev new-ledger : Ledger
       new-ledger = set-store l (guarded (l .store) (r .low) (r .high) (r .serial))
 
-      same-test : (b : Bool) → one-tablet (s .store) (r .low) (r .high) ≡ b → one-tablet (l .store) (r .low) (r .high) ≡ b
+      -- the ledger's test of its boundaries comes out as the tables'
+      same-test : (b : Bool) → one-tablet (s .store) (r .low) (r .high) ≡ b → sets l (record { low = r .low; high = r .high }) ≡ b
       same-test b t = ap (λ (st : Store). one-tablet st (r .low) (r .high)) (sim .store) ∙ t
 
       outcome : (a : ℕ) → OutcomeNote (note-of r) (settle a 0 (flight r)) (l .order)
@@ -250,7 +251,8 @@ module _ {h : List Event} {s : State} {l : Ledger} (sim : Sim h s l) (inv : Inv 
       abbrev effect : Ledger
       effect = take-effect (length h) l (r .serial) (r .low) (r .value)
 
-      same-commit : (b : Bool) → commits (s .store) (r .low) (r .guard) ≡ b → commits (l .store) (r .low) (r .guard) ≡ b
+      -- and so does its test of the entry's guard
+      same-commit : (b : Bool) → commits (s .store) (r .low) (r .guard) ≡ b → accepts l (r .low) (r .guard) ≡ b
       same-commit b t = ap (λ (st : Store). commits st (r .low) (r .guard)) (sim .store) ∙ t
 
       not-guard-request : (p : ℕ) (g : Range) → note-of r ≡ note-guard-request p g → ⊥

@@ -82,6 +82,30 @@ pub own-write-order : linearization (history own-write) ≡ item (from-cache 7) 
 unfolding unbroken tablet-first tablet-end
 own-write-order = refl
 
+-- a tablet restart: write 3 then carries a guard that the store has no more
+abbrev tablet-restart : List Step
+tablet-restart = once-granted (Write 0 1 7 ∷ RestartTablet 0 ∷ Deliver 3 ∷ Respond 3 ∷ [])
+
+pub tablet-restart-order : linearization (history tablet-restart) ≡ []
+unfolding unbroken tablet-first tablet-end
+tablet-restart-order = refl
+
+-- a guard request across a boundary sets nothing; with the boundary gone the next one does
+abbrev boundary-crossed : List Step
+boundary-crossed = Split 5 ∷ Assign 0 (range 0 9) ∷ RequestGuard 0 (range 0 9) ∷ Deliver 2 ∷ Respond 2 ∷ Merge 5 ∷ RequestGuard 0 (range 4 9) ∷ Deliver 3 ∷ []
+
+pub boundary-crossed-guards : map (ledger (history boundary-crossed) .store .guard) (3 ∷ 4 ∷ 8 ∷ 9 ∷ []) ≡ 0 ∷ 3 ∷ 3 ∷ 0 ∷ []
+unfolding unbroken tablet-first tablet-end
+boundary-crossed-guards = refl
+
+-- guard request 2 is abandoned and delivered after guard 3 is granted: the store has guard 2, write 4 carries guard 3 and is rejected
+abbrev late-guard-request : List Step
+late-guard-request = Assign 0 (range 0 9) ∷ RequestGuard 0 (range 0 9) ∷ Abandon 2 ∷ RequestGuard 0 (range 0 9) ∷ Deliver 3 ∷ Respond 3 ∷ Deliver 2 ∷ Write 0 1 7 ∷ Deliver 4 ∷ Respond 4 ∷ []
+
+pub late-guard-request-order : linearization (history late-guard-request) ≡ []
+unfolding unbroken tablet-first tablet-end
+late-guard-request-order = refl
+
 -- ---- wrong models: each follows the rules and then spoils what a step left; the claim rejects each of them, whatever it says of the tables
 
 -- the history of a model that does `spoil` after each step; `spoil` gets the state before, the step and its result
