@@ -53,7 +53,7 @@ pub record Result : Type 0 where
   pub state : State
   pub reply : Reply
 
--- a player without guards and with empty cells
+-- a player without guards, with nothing cached
 abbrev pub fresh-player : Player
 fresh-player = record { held = λ e. 0; cached = λ e. empty }
 
@@ -198,7 +198,7 @@ removed s r = with-requests s (drop-request (r .serial) (s .requests))
 abbrev pub still-owned : State → Request → Bool
 still-owned s r = all-entries (λ e. owns s (r .player) e && ltb (s .owners .epoch e) (r .serial)) (r .low) (r .high)
 
--- ‘success sets its guards there’; the cells stay
+-- ‘success sets its guards there’; what is cached stays
 abbrev pub grant : State → ℕ → ℕ → ℕ → ℕ → State
 grant s p lo hi n = with-player s p (record { held = fill lo hi n (s .player p .held); cached = s .player p .cached })
 
@@ -216,11 +216,11 @@ abbrev pub may-cache : State → Request → Bool
 may-cache s r =
     not (eqb (r .guard) 0) && (eqb (r .guard) (s .player (r .player) .held (r .low)) && (live s (r .player) (r .low) && not (r .overlapped)))
 
--- the player's cell for the entry becomes c
+-- what the player has cached for the entry becomes c
 abbrev pub with-cached : State → ℕ → ℕ → Cached → State
 with-cached s p e c = with-player s p (record { held = s .player p .held; cached = put e c (s .player p .cached) })
 
--- the request leaves, and this version and value are cached (‘remembered’) if they may be; if not, the cell stays as it is
+-- the request leaves, and this version and value are cached (‘remembered’) if they may be; if not, what is cached stays as it is
 abbrev pub cache : State → Request → ℕ → ℕ → State
 cache s r version value =
     cond (may-cache s r) (with-cached (removed s r) (r .player) (r .low) (record { guard = r .guard; version = version; value = value })) (removed s r)
@@ -242,7 +242,7 @@ respond s r = cond (is-guard-request r) (respond-guard-request s r) (cond (is-re
 
 -- ---- 8 give up (here: abandon), 9 lose
 
--- ‘an arrived row leaves, another is marked. For a write the clearing is the same’, arrived or not
+-- ‘an arrived row leaves, another is marked. For a write the clearing is the same’, delivered or not
 abbrev pub abandon : State → Request → Result
 abandon s r =
     let rs = cond (r .delivered) (drop-request (r .serial) (s .requests)) (change-request (r .serial) mark-abandoned (s .requests)) in
@@ -265,7 +265,7 @@ set-boundary s e b = record { state = with-store s (with-boundary (s .store) (pu
 abbrev pub restart-tablet : State → ℕ → Result
 restart-tablet s e = record { state = with-store s (restarted (s .store) e); reply = done }
 
--- ‘its guards and cells are cleared, its waiting rows given up as in step 8’: those arrived leave, the others are marked
+-- ‘its guards and cells are cleared, its waiting rows given up as in step 8’: those delivered leave, the others are marked
 abbrev pub restart-player : State → ℕ → Result
 restart-player s p =
     let rs = map (λ r. cond (by p r) (mark-abandoned r) r) (keep (λ r. not (by p r && (pending r && r .delivered))) (s .requests)) in
