@@ -1,14 +1,15 @@
-//! Tables that break one rule alone.
+//! Tables that break one rule alone, and damaged sessions.
 
-use crate::generate::any_state;
 use crate::prng::Prng;
+use crate::request_words::{RequestWords, REQUEST_WORDS};
 use crate::state::{Cached, Operation, Request, State, MAX_SERIAL};
+use crate::states::any_state;
 use crate::step::Range;
 use crate::store::{GuardOutcome, Versioned, WriteOutcome};
+use crate::table_rules::TableRule;
 use crate::tables::{
-    tables_of, RequestWords, TableRule, BOUNDARIES, CACHED_GUARDS, CACHED_VALUES, CACHED_VERSIONS,
-    EPOCHS, HELD_GUARDS, INTERVAL_GUARDS, INTERVAL_STARTS, LAST_SERIAL, OWNERS, REQUESTS,
-    REQUEST_WORDS, VERSIONS,
+    tables_of, BOUNDARIES, CACHED_GUARDS, CACHED_VALUES, CACHED_VERSIONS, EPOCHS, HELD_GUARDS,
+    INTERVAL_GUARDS, INTERVAL_STARTS, LAST_SERIAL, OWNERS, REQUESTS, VERSIONS,
 };
 
 /// The places of the requests in [`rich_state`].
@@ -242,4 +243,21 @@ fn change(players: &mut [u32], at: usize, change: impl FnOnce(&mut RequestWords)
     let mut words = request(players, at);
     change(&mut words);
     players[place(at)].copy_from_slice(&words.words());
+}
+
+/// Damages a session: changes, removes or puts in a few bytes, or cuts it.
+pub fn damage(rng: &mut Prng, session: &mut Vec<u8>) {
+    for _ in 0..rng.between(1, 3) {
+        let place = rng.index(session.len());
+        match rng.below(5) {
+            0 => session.truncate(place),
+            1 => session.insert(place, rng.below(256) as u8),
+            2 if !session.is_empty() => drop(session.remove(place)),
+            _ => {
+                if let Some(byte) = session.get_mut(place) {
+                    *byte ^= 1 << rng.below(8);
+                }
+            }
+        }
+    }
 }

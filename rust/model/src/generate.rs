@@ -1,12 +1,9 @@
-//! Random steps that collide, random states that keep the rules, tables that break one rule, and
-//! damaged sessions.
+//! Random steps that collide: few players and entries, serials of requests in flight, long delays,
+//! many abandoned requests, restarts and splits.
 
 use crate::prng::Prng;
-use crate::state::{
-    Cached, Operation, Request, State, ENTRIES, MAX_REQUESTS, MAX_SERIAL, NOBODY, PLAYERS,
-};
+use crate::state::{Request, State, ENTRIES, MAX_SERIAL, NOBODY, PLAYERS};
 use crate::step::{Range, Step, KINDS};
-use crate::store::{GuardOutcome, Versioned, WriteOutcome};
 
 /// What the steps of one list are drawn from. Each list has its own profile, so that some lists
 /// have long delays, some many restarts, some no splits at all.
@@ -122,13 +119,17 @@ impl Profile {
         for _ in 0..8 {
             step = step.or_else(|| self.fitting_step(rng, state));
         }
+        if step.is_none() {
+            self.phase = Phase::NONE;
+        }
         let step = step.unwrap_or_else(|| any_step(rng));
         self.previous = Some(step);
         step
     }
 
-    /// Now and then a step that follows from the one before: a write is abandoned at once, a
-    /// delivery is followed by a read, the newest request is delivered or answered.
+    /// Now and then a step that follows from the one before: a write is abandoned at once; the
+    /// player then reads, asks for a guard or gets another answer; a delivery is followed by a
+    /// read; the newest request is delivered or answered.
     fn follow_up(&self, rng: &mut Prng, state: &State) -> Option<Step> {
         let newest = state.requests.last().filter(|r| r.is_pending());
         match (self.previous, newest) {
@@ -137,13 +138,20 @@ impl Profile {
                     serial: newest.serial,
                 })
             }
+            (Some(Step::Abandon { .. } | Step::RestartPlayer { .. }), _)
+                if rng.chance(self.timeouts) =>
+            {
+                let answerable = |r: &Request| r.is_delivered() && r.is_pending();
+                match rng.below(3) {
+                    0 => self.owner_reads(rng, state),
+                    1 => self.owner_asks(state),
+                    _ => self
+                        .serial(rng, state, answerable)
+                        .map(|serial| Step::Respond { serial }),
+                }
+            }
             (Some(Step::Deliver { .. }), _) if rng.chance(self.reads) => {
-                let entry = self.entry(rng);
-                let owner = state.owners[usize::from(entry)];
-                (owner != NOBODY).then_some(Step::Read {
-                    player: owner,
-                    entry,
-                })
+                self.owner_reads(rng, state)
             }
             (_, Some(newest)) if rng.chance(self.prompt) => {
                 let serial = newest.serial;
@@ -157,7 +165,22 @@ impl Profile {
         }
     }
 
-    fn kind(&self, rng: &mut Prng) -> u8 {
+    /// The owner of an entry reads it.
+    fn owner_reads(&self, rng: &mut Prng, state: &State) -> Option<Step> {
+        let entry = self.entry(rng);
+        let player = state.owners[usize::from(entry)];
+        (player != NOBODY).then_some(Step::Read { player, entry })
+    }
+
+    /// The owner of the window asks for a guard.
+    fn owner_asks(&self, state: &State) -> Option<Step> {
+        let player = state.owners[usize::from(self.window.low)];
+        let range = self.window;
+        (player != NOBODY).then_some(Step::RequestGuard { player, range })
+    }
+
+    /// A kind drawn by weight; none if the phase has no kind with a weight.
+    fn kind(&self, rng: &mut Prng) -> Option<u8> {
         let weight = |kind: u8| {
             let at = usize::from(kind) - 1;
             self.weights[at] * u32::from(self.phase.kinds[at])
@@ -165,11 +188,11 @@ impl Profile {
         let mut left = rng.below((1..=KINDS).map(weight).sum());
         for kind in 1..=KINDS {
             if left < weight(kind) {
-                return kind;
+                return Some(kind);
             }
             left -= weight(kind);
         }
-        KINDS
+        None
     }
 
     /// A step of a kind drawn by weight. None if no request fits it, and mostly none if the player
@@ -185,7 +208,7 @@ impl Profile {
         };
         let owned = state.owners[usize::from(range.low)] != NOBODY;
         let unready = rng.chance(5);
-        Some(match self.kind(rng) {
+        Some(match self.kind(rng)? {
             1 if owned && rng.chance(self.steady) => return None,
             1 => Step::Assign { player, range },
             2 => Step::Release { range },
@@ -308,130 +331,6 @@ fn small_or_any(rng: &mut Prng, bound: u32) -> u32 {
     }
 }
 
-/// A few serials that a table may hold: 0, the last one and some between.
-fn serial_pool(rng: &mut Prng, last_serial: u32) -> [u32; 8] {
-    let mut pool = [0; 8];
-    for serial in &mut pool[2..] {
-        *serial = rng.below(last_serial + 1);
-    }
-    pool[1] = last_serial;
-    pool
-}
-
-/// Fills some random ranges with values that are drawn anew for each.
-fn fill_ranges<T: Copy>(rng: &mut Prng, items: &mut [T], mut draw: impl FnMut(&mut Prng) -> T) {
-    let times = [0, 1, 3, 10, 300][rng.index(5)];
-    for _ in 0..times {
-        let longest = if times > 10 { 2 } else { items.len() as u32 };
-        let low = rng.index(items.len());
-        let high = (low + 1 + rng.below(longest) as usize).min(items.len());
-        let item = draw(rng);
-        items[low..high].fill(item);
-    }
-}
-
-/// Any state that keeps the table rules: also such as no list of steps leads to, full places,
-/// serials near the last one, 1 to 256 guard intervals.
-pub fn any_state(rng: &mut Prng) -> State {
-    let last_serial = match rng.below(5) {
-        0 => rng.below(4),
-        1 => rng.below(100),
-        2 => MAX_SERIAL - rng.below(4),
-        3 => MAX_SERIAL,
-        _ => rng.below(MAX_SERIAL + 1),
-    };
-    let pool = serial_pool(rng, last_serial);
-    let serial = |rng: &mut Prng| pool[rng.index(pool.len())];
-    let mut state = State::fresh();
-    state.last_serial = last_serial;
-    let boundaries = [0, 1, 10, 60][rng.index(4)];
-    for boundary in &mut state.store.boundaries[1..] {
-        *boundary = rng.chance(boundaries);
-    }
-    fill_ranges(rng, &mut state.store.guards, serial);
-    fill_ranges(rng, &mut state.store.versions, serial);
-    fill_ranges(rng, &mut state.store.values, Prng::word);
-    fill_ranges(rng, &mut state.owners, |rng| rng.below(9) as u8);
-    fill_ranges(rng, &mut state.epochs, serial);
-    for player in 0..PLAYERS {
-        fill_ranges(rng, &mut state.held[player], serial);
-        fill_ranges(rng, &mut state.cached[player], |rng| {
-            any_cached(rng, serial)
-        });
-    }
-    let count = [0, 2, 10, MAX_REQUESTS as u32 - 1, MAX_REQUESTS as u32][rng.index(5)];
-    for request in request_serials(rng, count, last_serial) {
-        let request = any_request(rng, request, serial);
-        state.requests.push(request);
-    }
-    state
-}
-
-fn any_cached(rng: &mut Prng, serial: impl Fn(&mut Prng) -> u32) -> Cached {
-    match serial(rng) {
-        0 => Cached::EMPTY,
-        guard => Cached {
-            guard,
-            version: serial(rng),
-            value: rng.word(),
-        },
-    }
-}
-
-/// Rising serials of at most this many requests, none above the last one issued.
-fn request_serials(rng: &mut Prng, count: u32, last_serial: u32) -> Vec<u32> {
-    let count = count.min(last_serial);
-    let spread = rng.between(1, (last_serial / count.max(1)).clamp(1, 1_000));
-    let mut serials: Vec<u32> = Vec::new();
-    let mut serial = last_serial;
-    while serials.len() < count as usize && serial > 0 {
-        serials.push(serial);
-        serial = serial.saturating_sub(rng.between(1, spread));
-    }
-    serials.reverse();
-    serials
-}
-
-fn any_request(rng: &mut Prng, own: u32, serial: impl Fn(&mut Prng) -> u32) -> Request {
-    let low = rng.below(256);
-    let range = Range::new(low as u8, rng.between(low + 1, 256) as u16);
-    let entry = [low as u8, 0, 1][rng.index(3)];
-    let below = |number: u32| if number < own { number } else { own - 1 };
-    let guard = below(serial(rng));
-    let overlapped = rng.chance(30);
-    let delivered = rng.chance(50);
-    let operation = match rng.below(3) {
-        0 => Operation::Guard {
-            range,
-            outcome: delivered
-                .then_some([GuardOutcome::Set, GuardOutcome::LayoutChanged][rng.index(2)]),
-        },
-        1 if guard != 0 => Operation::Write {
-            entry,
-            value: rng.word(),
-            guard,
-            overlapped,
-            outcome: delivered
-                .then_some([WriteOutcome::Committed, WriteOutcome::Rejected][rng.index(2)]),
-        },
-        _ => Operation::Read {
-            entry,
-            guard,
-            overlapped,
-            outcome: delivered.then_some(Versioned {
-                version: serial(rng),
-                value: rng.word(),
-            }),
-        },
-    };
-    Request {
-        serial: own,
-        player: rng.below(PLAYERS as u32) as u8,
-        abandoned: !delivered && rng.chance(30),
-        operation,
-    }
-}
-
 /// A step for any state: the numbers are often those of the state.
 pub fn step_for(rng: &mut Prng, state: &State) -> Step {
     let mut profile = Profile {
@@ -451,21 +350,4 @@ pub fn step_for(rng: &mut Prng, state: &State) -> Step {
         previous: None,
     };
     profile.next_step(rng, state)
-}
-
-/// Damages a session: changes, removes or puts in a few bytes, or cuts it.
-pub fn damage(rng: &mut Prng, session: &mut Vec<u8>) {
-    for _ in 0..rng.between(1, 3) {
-        let place = rng.index(session.len());
-        match rng.below(5) {
-            0 => session.truncate(place),
-            1 => session.insert(place, rng.below(256) as u8),
-            2 if !session.is_empty() => drop(session.remove(place)),
-            _ => {
-                if let Some(byte) = session.get_mut(place) {
-                    *byte ^= 1 << rng.below(8);
-                }
-            }
-        }
-    }
 }

@@ -1,8 +1,9 @@
 //! "The rows in flight are also offered as a lent list of records".
 
 use crate::reply::{code, Refusal, Reply};
+use crate::request_words::{RequestWords, REQUEST_WORDS};
 use crate::state::{MAX_REQUESTS, PLAYERS};
-use crate::tables::{RequestWords, REQUESTS, REQUEST_WORDS};
+use crate::tables::REQUESTS;
 
 /// The 64 places of a players' table as records. None if the table has another length.
 pub fn records(players: &[u32]) -> Option<Vec<RequestWords>> {

@@ -1,7 +1,6 @@
 //! A run over a session.
 
 use crate::codec::{decode, MARK, MAX_SESSION};
-use crate::faults::{NoFault, Switches};
 use crate::reply::{Refusal, Reply};
 use crate::rules;
 use crate::state::State;
@@ -53,7 +52,7 @@ pub fn run(
         .and_then(|state| test_session(session).map(|()| state));
     match begin {
         Ok(mut state) => {
-            let report = run_state(&mut state, session, budget, list, &NoFault);
+            let report = take_records(&mut state, session, budget, list);
             tables::encode(&state, store, players);
             report
         }
@@ -62,7 +61,7 @@ pub fn run(
 }
 
 /// The report of a refused run: "its number, 0, 0".
-pub fn refused(refusal: Refusal) -> Report {
+fn refused(refusal: Refusal) -> Report {
     Report {
         why: refusal.number(),
         taken: 0,
@@ -71,7 +70,7 @@ pub fn refused(refusal: Refusal) -> Report {
 }
 
 /// "37 longer than 16,384 bytes; 23 mark wrong or missing"
-pub fn test_session(session: &[u8]) -> Result<(), Refusal> {
+fn test_session(session: &[u8]) -> Result<(), Refusal> {
     if session.len() > MAX_SESSION {
         return Err(Refusal::SessionLong);
     }
@@ -81,15 +80,9 @@ pub fn test_session(session: &[u8]) -> Result<(), Refusal> {
     Ok(())
 }
 
-/// The run over a session that [`test_session`] lets by. "That last refuses no run: earlier steps
+/// Takes the records of a session that [`test_session`] lets by. "That last refuses no run: earlier steps
 /// keep their effect. A refused step is taken and replied to; the run goes on."
-pub fn run_state(
-    state: &mut State,
-    session: &[u8],
-    budget: u32,
-    list: &mut [u32],
-    faults: &impl Switches,
-) -> Report {
+fn take_records(state: &mut State, session: &[u8], budget: u32, list: &mut [u32]) -> Report {
     let mut replies = list.chunks_exact_mut(REPLY_WORDS);
     let mut rest = session.get(MARK.len()..).unwrap_or(&[]);
     let mut taken = 0;
@@ -108,7 +101,7 @@ pub fn run_state(
             Ok(record) => record,
             Err(refusal) => break refusal.number(),
         };
-        let Reply { code, a, b } = rules::step_with(state, step, faults);
+        let Reply { code, a, b } = rules::step(state, step);
         words.copy_from_slice(&[code, a, b]);
         rest = rest.get(length..).unwrap_or(&[]);
         taken += 1;

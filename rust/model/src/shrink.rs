@@ -54,9 +54,10 @@ fn without(steps: &[Step], part: std::ops::Range<usize>, replies: &[Reply]) -> V
         .map(|reply| reply.a)
         .collect();
     removed.sort_unstable();
+    removed.dedup();
     let renumber = |serial: u32| match removed.binary_search(&serial) {
         Ok(_) => None,
-        Err(below) => Some(serial - below as u32),
+        Err(below) => Some(serial.saturating_sub(below as u32)),
     };
     let mut rest = Vec::with_capacity(steps.len());
     for (at, &step) in steps.iter().enumerate() {

