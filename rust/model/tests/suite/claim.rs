@@ -206,6 +206,29 @@ fn real_time_order() {
     assert_eq!(altered(&steps, &[(5, reply(4, 3, 7))]), Ok(()));
 }
 
+/// Reading 23: a write never answered forces nobody behind it, however late it takes effect; "reads
+/// without an answer are struck out", so it does not matter what one of them saw.
+#[test]
+fn without_an_answer() {
+    let steps = then(&[
+        write(0, 45, 7),
+        read(1, 45),
+        deliver(4),
+        respond(4),
+        read(1, 45),
+        deliver(5),
+        abandon(5),
+        deliver(3),
+        read(1, 45),
+        deliver(6),
+        respond(6),
+    ]);
+    let (history, state) = play(&steps, &NoFault);
+    assert_eq!(history[7].reply, reply(3, 0, 0));
+    assert_eq!(history[14].reply, reply(3, 3, 7));
+    assert_eq!(check(&history, &state.store), Ok(()));
+}
+
 /// "Each read gave the stamp and value of the last write to its entry ahead of it". The ledger
 /// makes it so unless serials are mixed up: here the write's serial is issued again, with value 8.
 #[test]

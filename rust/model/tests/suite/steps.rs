@@ -283,6 +283,14 @@ fn abandoning() {
     let state = state_after(&then(&[write(0, 45, 7), deliver(3), abandon(3)]));
     assert!(state.requests.is_empty());
     assert_eq!(state.held[0], [0; 256]);
+    // Owned or not, live or not; another player's equal guard stays.
+    let mut state = state_after(&then(&[write(0, 45, 7), assign(1, 50, 60)]));
+    state.held[0][200] = 1;
+    state.held[1][45] = 2;
+    assert_eq!(state.held[0][55], 2);
+    assert_eq!(rules::step(&mut state, abandon(3)), reply(0, 0, 0));
+    assert!(state.held[0][40..60].iter().all(|&guard| guard == 0));
+    assert_eq!((state.held[0][200], state.held[1][45]), (1, 2));
     let state = state_after(&then(&[read(0, 45), abandon(3)]));
     assert!(state.requests[0].abandoned);
     assert_eq!(state.held[0][45], 2, "only a write clears");
