@@ -1,4 +1,10 @@
-// The requests in flight between the players and the store.
+// The requests in flight between the players and the store: 64 places of 12 words, as specs/Region.antt lays them out.
+mod places;
+mod rules;
+pub mod words;
+
+ghost use mathlib.Core.Path.{_≡_};
+ghost use Rattle.requests.specs.Region.{valid};
 
 // A request in flight (document: row). Fields that its kind lacks are 0, and so is the outcome before delivery.
 pub struct Request {
@@ -20,4 +26,14 @@ pub struct Request {
     // the outcome: 1 or 2 and 0, for a read the version and value
     pub first: u32,
     pub second: u32,
+}
+
+// Whether a region keeps the rules, where `last` is the last serial issued: it has 768 words, and each place does.
+pub fn holds(region: &[u32], last: u32) -> bool
+    ensures { λ r. ⌜ r ≡ valid last (now (region .entry)) ⌝ }
+{
+    if region.len() != 768 {
+        return false;
+    }
+    rules::places_hold(region, last)
 }

@@ -1,0 +1,17 @@
+// Words of a table.
+ghost use mathlib.Core.Path.{_≡_};
+ghost use Rattle.store.specs.Table.{at-most};
+
+// Whether each word of `part` is at most `n`.
+pub fn at_most(part: &[u32], n: u32) -> bool
+    ensures { λ r. ⌜ r ≡ at-most n (now (part .entry)) ⌝ }
+{
+    let mut i = 0;
+    while i < part.len() {
+        if part[i] > n {
+            return false;
+        }
+        i += 1;
+    }
+    true
+}
