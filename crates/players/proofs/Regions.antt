@@ -58,9 +58,6 @@ module _ (b n : ℕ) (t p : List ℕ) (e : length p ≡ n) (h : b + n ≤ length
       ∙ getD-drop b t (n + (i - (b + n))) d
       ∙ ap (λ (j : ℕ). getD t j d) y
 
-  pub put-inside : (i d : ℕ) → i < n → getD (putMid b n t p) (b + i) d ≡ getD p i d
-  put-inside i d k = after i d ∙ List·getD-append p (drop n (drop b t)) d i (omega arith)
-
   -- the region itself
   pub put-self : region b n (putMid b n t p) ≡ p
   unfolding region

@@ -5,9 +5,6 @@ use mathlib.Core.Bool.{Bool, true, false, cond, not, _&&_, _||_, true≢false}
 use lib.Dec.{T}
 pub use Rattle.store.proofs.Intervals.{decide, is-true, and-left, and-right, and-both}
 
-pub is-T : {b : Bool} → b ≡ true → T b
-is-T e = rw e tt
-
 pub clash {ℓ} : {A : Type ℓ} {b : Bool} → b ≡ true → b ≡ false → A
 clash p q = absurd (true≢false (sym p ∙ q))
 

@@ -63,11 +63,6 @@ pub each-imp : (Q Q′ : Request → Type 0) → ((r : Request) → Q r → Q′
 each-imp Q Q′ h p [] t = tt
 each-imp Q Q′ h p (r ∷ rs) t = (t .0, h r (t .1), each-imp Q Q′ h (r .serial) rs (t .2))
 
--- one more, with a serial above all
-pub each-append : (Q : Request → Type 0) (p m : ℕ) (rs : List Request) (q : Request) → p ≤ m → ((r : Request) → Q r → r .serial ≤ m) → m < q .serial → Q q → Each Q p rs → Each Q p (rs ++ (q ∷ []))
-each-append Q p m [] q h b k z t = (omega arith, z, tt)
-each-append Q p m (r ∷ rs) q h b k z t = (t .0, t .1, each-append Q (r .serial) m rs q (b r (t .1)) b k z (t .2))
-
 -- the request with the serial of r, which is r, is changed
 pub each-change :
     (Q : Request → Type 0) (f : Request → Request) → ((q : Request) → f q .serial ≡ q .serial) → (p : ℕ) (rs : List Request) (r : Request) → In r rs → Q (f r) → Each Q p rs
