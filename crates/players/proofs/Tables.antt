@@ -330,7 +330,7 @@ module _ (t : List ℕ) (l : length t ≡ 9473) (v : T (valid-players t)) where
         };
         nobody = nobody-is;
         requests = requests-rules (last-word t) (request-words t) (r .requests);
-        few = requests-few places (request-words t);
+        few = requests-few (request-words t);
       }
 
 -- ---- both tables

@@ -64,5 +64,5 @@ pub(crate) fn players_hold(players: &[u32]) -> bool
     if !values_hold(players) {
         return false;
     }
-    requests::holds(&players[8705..9473], last)
+    requests::region::holds(&players[8705..9473], last)
 }

@@ -28,6 +28,12 @@ pub neither-right : (a b : Bool) → (a || b) ≡ false → b ≡ false
 neither-right true b h = cc
 neither-right false b h = h
 
+pub chosen : {A : Type 0} (b : Bool) (x y : A) → b ≡ true → x ≡ cond b x y
+chosen b x y e = rw e
+
+pub passed-over : {A : Type 0} (b : Bool) (x y : A) → b ≡ false → y ≡ cond b x y
+passed-over b x y e = rw e
+
 -- what holds of both branches holds of the choice
 pub cond-elim {ℓ} : {A : Type ℓ} (P : A → Type 0) (b : Bool) (x y : A) → (b ≡ true → P x) → (b ≡ false → P y) → P (cond b x y)
 cond-elim P true x y t f = t refl

@@ -3,7 +3,7 @@
 use mathlib.Core.Path.{_≡_, refl, sym, ap, _∙_}
 use mathlib.Core.Bool.{Bool, true, false, _&&_}
 use mathlib.Core.List.{List, [], _∷_, _++_}
-use Prim.Native.Nat.{ℕ, zero, suc, _+_, _-_, _*_, _%_, _≤_, _<_, zero-le}
+use Prim.Native.Nat.{ℕ, zero, suc, _*_, _%_, _≤_, _<_, zero-le}
 use native.Mathlib.Omega.{arith}
 use native.Mathlib.Nat.{not-suc-le-zero, le-of-suc-le-suc}
 use lib.Dec.{T, leb, ltb, eqb, leb→le, le→leb, ltb→lt}
@@ -14,7 +14,7 @@ use Rattle.store.specs.Table.{at-most}
 use Rattle.store.proofs.Intervals.{all-zero, at-most-zeros}
 use Rattle.requests.specs.declared.Request.{Request}
 use Rattle.requests.specs.Model.{places}
-use Rattle.requests.specs.Region.{requestOf, requestsFrom, requestsOf, bit, wordsOf, placed, regionOf, request-holds, words-fit, places-hold, valid}
+use Rattle.requests.specs.Region.{requestOf, requestsFrom, whole, requestsOf, bit, wordsOf, placed, regionOf, request-holds, words-fit, places-hold, valid}
 use Rattle.requests.proofs.Basics.{is-true, and-left, and-right, and-both, cond-elim}
 use Rattle.requests.proofs.Rising.{Each}
 use Rattle.requests.proofs.RequestRules.{Fits, request-fits}
@@ -137,11 +137,15 @@ places-keep n p (suc k) (r ∷ rs) h q =
 
 -- ---- all places: what is decoded
 
-pub requests-few : (k : ℕ) (w : List ℕ) → length (requestsFrom k w) ≤ k
+few-from : (k : ℕ) (w : List ℕ) → length (requestsFrom k w) ≤ k
 unfolding requestsFrom
-requests-few zero w = zero-le
-requests-few (suc k) w =
-    cond-elim (λ (rs : List Request). length rs ≤ suc k) (eqb (getD w 0 0) 0) [] (requestOf w ∷ requestsFrom k (drop 12 w)) (λ z. zero-le) (λ z. let i = requests-few k (drop 12 w) in omega arith)
+few-from zero w = zero-le
+few-from (suc k) w =
+    cond-elim (λ (rs : List Request). length rs ≤ suc k) (eqb (getD w 0 0) 0) [] (requestOf w ∷ requestsFrom k (drop 12 w)) (λ z. zero-le) (λ z. let i = few-from k (drop 12 w) in omega arith)
+
+pub requests-few : (w : List ℕ) → length (requestsOf w) ≤ places
+unfolding requestsOf
+requests-few w = cond-elim (λ (rs : List Request). length rs ≤ places) (whole w) (requestsFrom places w) [] (λ _. few-from places w) (λ _. zero-le)
 
 -- the rules of a place that is used
 record Used (n p k : ℕ) (w : List ℕ) : Type 0 where
@@ -196,7 +200,8 @@ placed-back n p (suc k) w h t =
 
 module _ (n : ℕ) (rs : List Request) (f : length rs ≤ places) (q : Requests n 0 rs) where
   pub requests-region : requestsOf (regionOf rs) ≡ rs
-  requests-region = requests-back n 0 places rs f q
+  unfolding requestsOf
+  requests-region = rw (eq-eqb (length (regionOf rs)) 768 (length-placed places rs)) (requests-back n 0 places rs f q)
 
   pub valid-region : T (valid n (regionOf rs))
   unfolding valid
@@ -212,7 +217,9 @@ module _ (n : ℕ) (w : List ℕ) (t : T (valid n w)) where
   valid-places = and-right (eqb (length w) 768) _ t
 
   pub valid-requests : Requests n 0 (requestsOf w)
-  valid-requests = requests-are n 0 places w valid-places
+  unfolding requestsOf
+  valid-requests = rw (eq-eqb (length w) 768 valid-long) (requests-are n 0 places w valid-places)
 
   pub region-requests : regionOf (requestsOf w) ≡ w
-  region-requests = placed-back n 0 places w valid-long valid-places
+  unfolding requestsOf
+  region-requests = rw (eq-eqb (length w) 768 valid-long) (placed-back n 0 places w valid-long valid-places)

@@ -1,10 +1,9 @@
 // The requests in flight between the players and the store: 64 places of 12 words, as specs/Region.antt lays them out.
 mod places;
+pub mod region;
 mod rules;
+mod tests;
 pub mod words;
-
-ghost use mathlib.Core.Path.{_≡_};
-ghost use Rattle.requests.specs.Region.{valid};
 
 // A request in flight (document: row). Fields that its kind lacks are 0, and so is the outcome before delivery.
 pub struct Request {
@@ -28,12 +27,14 @@ pub struct Request {
     pub second: u32,
 }
 
-// Whether a region keeps the rules, where `last` is the last serial issued: it has 768 words, and each place does.
-pub fn holds(region: &[u32], last: u32) -> bool
-    ensures { λ r. ⌜ r ≡ valid last (now (region .entry)) ⌝ }
-{
-    if region.len() != 768 {
-        return false;
-    }
-    rules::places_hold(region, last)
+// The request that a search gives, and its place.
+pub enum Found {
+    At { place: usize, request: Request },
+    Nowhere,
+}
+
+// What a pass over the requests tells: how many there are, and whether one is of the kind that is looked for.
+pub struct Scan {
+    pub used: usize,
+    pub hit: bool,
 }

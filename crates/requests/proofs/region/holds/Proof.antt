@@ -1,9 +1,9 @@
--- `requests::holds` meets its contract.
+-- `requests::region::holds` meets its contract.
 -- Assumes nothing.
 use borrow.Author.Needs.{needs}
 use Rattle.requests.proofs.PlaceLaws.{other-length, right-length}
-use Rattle.requests.proofs.holds.Statement.{statement}
-use Rattle.requests.proofs.holds.Tie as tie
+use Rattle.requests.proofs.region.holds.Statement.{statement}
+use Rattle.requests.proofs.region.holds.Tie as tie
 
 returns : tie.Need-returns
 returns c =
