@@ -1,7 +1,8 @@
 -- What the tests of `check` come to, case by case: small tests on numbers, and what one turn of a loop does to the rest of a list.
 -- Assumes nothing.
 use mathlib.Core.Path.{_≡_, refl, sym, ap, _∙_}
-use mathlib.Core.Bool.{Bool, true, false, cond, _&&_, and-false}
+use mathlib.Core.Logic.{⊎-elim}
+use mathlib.Core.Bool.{Bool, true, false, cond, _&&_}
 use mathlib.Core.List.{List, _∷_}
 use Prim.Native.Nat.{ℕ, _+_, _≤_, _<_}
 use native.Mathlib.Omega.{arith}
@@ -9,12 +10,14 @@ use native.Mathlib.Numerals.{add-one}
 use lib.Dec.{leb, eqb}
 use lib.ListN.{length, getD, take, drop, drop-of-length-le, length-drop}
 use lib.Seq.{drop-cons, getD-take, getD-drop, length-take-le}
-use borrow.Author.Tests.{eq-eqb, ne-eqb, le-leb, lt-leb}
+use borrow.Author.Tests.{eq-eqb, ne-eqb, le-leb, lt-leb, eqb-true}
 use Rattle.store.specs.Model.{fresh as fresh-store}
 use Rattle.store.specs.Table.{at-most, tableOf as store-table, valid as valid-store}
 use Rattle.store.specs.Calls.{said, checked as checked-store, done as stored-as, Done as StoreDone, made-fresh as store-made}
 use Rattle.store.specs.declared.Reply.{Reply}
 use Rattle.requests.specs.Region.{valid as valid-requests}
+use Rattle.requests.proofs.Basics.{decide, both-left, both-right, cond-elim}
+use Rattle.players.specs.Replies.{refusal}
 use Rattle.players.specs.Rules.{fresh}
 use Rattle.players.specs.Calls.{left, whole, checked, made-fresh}
 use Rattle.players.specs.Table.{region, tableOf, valid-players, valid, cached-holds, cached-all}
@@ -125,54 +128,54 @@ module _ (t : List ℕ) where
 -- ---- both tables
 
 module _ (st t : List ℕ) where
-  pub store-short : (length st ≡ 1280 → ⊥) → whole st t ≡ false
+  pub store-short : (length st ≡ 1280 → ⊥) → false ≡ whole st t
   store-short h = rw (ne-eqb (length st) 1280 h)
 
-  pub players-short : (length t ≡ 9473 → ⊥) → whole st t ≡ false
-  players-short h = rw (ne-eqb (length t) 9473 h, and-false)
+  pub players-length : length st ≡ 1280 → eqb (length t) 9473 ≡ whole st t
+  players-length h = rw (eq-eqb (length st) 1280 h)
 
-  pub both-whole : length st ≡ 1280 → length t ≡ 9473 → whole st t ≡ true
-  both-whole h k = rw (eq-eqb (length st) 1280 h, eq-eqb (length t) 9473 k)
+module _ (st t : List ℕ) (w : whole st t ≡ true) where
+  pub store-long : length st ≡ 1280
+  store-long = eqb-true (length st) 1280 (both-left (eqb (length st) 1280) (eqb (length t) 9473) w)
 
--- the store's test, where the length is right
-store-code : (b : Bool) (n : ℕ) → cond b (said 0 0 0) (said 22 0 0) .code ≡ n → (n ≡ 0 → ⊥) → b ≡ false
-store-code true n e h = absurd (h (sym e))
-store-code false n e h = refl
+  pub players-long : length t ≡ 9473
+  players-long = eqb-true (length t) 9473 (both-right (eqb (length st) 1280) (eqb (length t) 9473) w)
 
-store-code-0 : (b : Bool) → cond b (said 0 0 0) (said 22 0 0) .code ≡ 0 → b ≡ true
-store-code-0 true e = refl
-store-code-0 false e = absurd (omega (arith, e))
+  -- the store's test, and then the players'
+  module _ (r : Reply) (e : r ≡ checked-store (getD t 0 0) st) where
+    tested : r .code ≡ cond (valid-store (getD t 0 0) st) 0 22
+    tested =
+        ap (λ (x : Reply). x .code) e
+        ∙ rw (eq-eqb (length st) 1280 store-long) (cond-elim (λ (x : Reply). x .code ≡ cond (valid-store (getD t 0 0) st) 0 22) (valid-store (getD t 0 0) st) (said 0 0 0) (said 22 0 0) (λ b. rw b) (λ b. rw b))
 
-module _ (st t : List ℕ) (h : length st ≡ 1280) (k : length t ≡ 9473) (r : Reply) (e : r ≡ checked-store (getD t 0 0) st) where
-  tested : r ≡ cond (valid-store (getD t 0 0) st) (said 0 0 0) (said 22 0 0)
-  tested = rw (eq-eqb (length st) 1280 h) at e
+    stored-not : (r .code ≡ 0 → ⊥) → valid-store (getD t 0 0) st ≡ false
+    stored-not z = ⊎-elim (λ b. absurd (z (tested ∙ ap (λ (x : Bool). cond x 0 22) b))) (λ b. b) (decide (valid-store (getD t 0 0) st))
 
-  pub check-store : (r .code ≡ 0 → ⊥) → said 22 0 0 ≡ checked st t
-  unfolding valid
-  check-store z =
-      rw (both-whole st t h k, store-code (valid-store (getD t 0 0) st) (r .code) (sym (ap (λ (x : Reply). x .code) tested)) z)
-
-  module _ (z : r .code ≡ 0) where
-    stored : valid-store (getD t 0 0) st ≡ true
-    stored = store-code-0 (valid-store (getD t 0 0) st) (sym (ap (λ (x : Reply). x .code) tested) ∙ z)
-
-    pub check-players : valid-players t ≡ false → said 22 0 0 ≡ checked st t
+    pub check-store : (r .code ≡ 0 → ⊥) → refusal 22 ≡ checked st t
     unfolding valid
-    check-players v = rw (both-whole st t h k, stored, v)
+    check-store z = rw (w, stored-not z)
 
-    pub check-good : valid-players t ≡ true → said 0 0 0 ≡ checked st t
-    unfolding valid
-    check-good v = rw (both-whole st t h k, stored, v)
+    module _ (z : r .code ≡ 0) where
+      stored : valid-store (getD t 0 0) st ≡ true
+      stored = ⊎-elim (λ b. b) (λ b. absurd (omega (arith, sym z ∙ tested ∙ ap (λ (x : Bool). cond x 0 22) b))) (decide (valid-store (getD t 0 0) st))
 
-module _ (st t : List ℕ) where
-  pub check-short : whole st t ≡ false → said 21 0 0 ≡ checked st t
-  check-short h = rw h
+      pub check-players : valid-players t ≡ false → refusal 22 ≡ checked st t
+      unfolding valid
+      check-players v = rw (w, stored, v)
 
-  pub fresh-short : whole st t ≡ false → (r : Reply) → r ≡ said 21 0 0 → left r st t ≡ made-fresh st t
-  fresh-short h r e = rw (e, h)
+      pub check-good : valid-players t ≡ true → refusal 0 ≡ checked st t
+      unfolding valid
+      check-good v = rw (w, stored, v)
 
   -- the store made fresh, and the players
-  pub fresh-both : length st ≡ 1280 → length t ≡ 9473 → (r : Reply) (st′ t′ : List ℕ) → stored-as r st′ ≡ store-made st → t′ ≡ tableOf fresh → left r st′ t′ ≡ made-fresh st t
-  fresh-both h k r st′ t′ e f =
-      let x : stored-as r st′ ≡ stored-as (said 0 0 0) (store-table fresh-store) = e ∙ rw (eq-eqb (length st) 1280 h) in
-      rw (both-whole st t h k, ap (λ (d : StoreDone). d .reply) x, ap (λ (d : StoreDone). d .table) x, f)
+  pub fresh-both : (r : Reply) (st′ t′ : List ℕ) → stored-as r st′ ≡ store-made st → t′ ≡ tableOf fresh → left r st′ t′ ≡ made-fresh st t
+  fresh-both r st′ t′ e f =
+      let x : stored-as r st′ ≡ stored-as (said 0 0 0) (store-table fresh-store) = e ∙ rw (eq-eqb (length st) 1280 store-long) in
+      rw (w, ap (λ (d : StoreDone). d .reply) x, ap (λ (d : StoreDone). d .table) x, f)
+
+module _ (st t : List ℕ) (w : whole st t ≡ false) (r : Reply) (e : r ≡ refusal 21) where
+  pub check-short : r ≡ checked st t
+  check-short = e ∙ rw w
+
+  pub fresh-short : left r st t ≡ made-fresh st t
+  fresh-short = rw (e, w)

@@ -6,7 +6,7 @@ mod rules;
 use store::Range;
 use store::Reply;
 ghost use mathlib.Core.Path.{_≡_};
-ghost use Rattle.players.specs.Calls.{left, checked, made-fresh};
+ghost use Rattle.players.specs.Calls.{left, whole, checked, made-fresh};
 ghost use Rattle.players.specs.Replies.{refusal};
 
 // A step: its kind, with that kind's fields. The number of each kind, and the document's word where it has one of its own, stand beside it.
@@ -33,28 +33,32 @@ fn refuse(code: u32) -> Reply
     Reply { code, a: 0, b: 0 }
 }
 
+// Whether both tables have their lengths.
+fn whole(store: &[u32], players: &[u32]) -> bool
+    ensures { λ r. ⌜ r ≡ whole (now (store .entry)) (now (players .entry)) ⌝ }
+{
+    if store.len() != 1280 {
+        return false;
+    }
+    players.len() == 9473
+}
+
 // Makes both tables fresh.
 pub fn fresh(store: &mut [u32], players: &mut [u32]) -> Reply
     ensures { λ r. ⌜ left r (now (store .exit)) (now (players .exit)) ≡ made-fresh (now (store .entry)) (now (players .entry)) ⌝ }
 {
-    if store.len() != 1280 {
-        return refuse(21);
+    if whole(store, players) {
+        initial::lay_players(players);
+        return store::fresh(store);
     }
-    if players.len() != 9473 {
-        return refuse(21);
-    }
-    initial::lay_players(players);
-    store::fresh(store)
+    refuse(21)
 }
 
 // Whether both tables keep the rules.
 pub fn check(store: &[u32], players: &[u32]) -> Reply
     ensures { λ r. ⌜ r ≡ checked (now (store .entry)) (now (players .entry)) ⌝ }
 {
-    if store.len() != 1280 {
-        return refuse(21);
-    }
-    if players.len() != 9473 {
+    if !whole(store, players) {
         return refuse(21);
     }
     let tested = store::check_at(store, players[0]);
