@@ -11,8 +11,8 @@ use borrow.Rule.Slice.PartMut.{putMid}
 use Rattle.store.specs.Table.{listed}
 use Rattle.players.specs.Rules.{fresh}
 use Rattle.requests.specs.Region.{placed}
-use Rattle.players.specs.Table.{region, tableOf}
-use Rattle.players.proofs.Regions.{length-region, own-parts, joined-of, put-last, put-owners, put-epochs, put-held, put-guards, put-versions, put-values, put-requests}
+use Rattle.players.specs.Table.{region, joined, tableOf}
+use Rattle.players.proofs.Regions.{length-region, wordsFrom, table, Sized, with-last, with-owners, with-epochs, with-held, with-guards, with-versions, with-values, sized, sized-last, sized-owners, sized-epochs, sized-held, sized-guards, sized-versions, sized-values, length-table, table-words, put-owners, put-epochs, put-held, put-guards, put-versions, put-values, put-requests}
 
 -- ---- `copy`: one number more is written, and all are
 
@@ -29,6 +29,10 @@ listed-const : (c e n : ℕ) → listed (λ i. c) e n ≡ replicate n c
 unfolding listed
 listed-const c e zero = refl
 listed-const c e (suc n) = ap (λ (l : List ℕ). c ∷ l) (listed-const c (suc e) n)
+
+fresh-table : tableOf fresh ≡ joined 0 (replicate 256 8) (replicate 256 0) (replicate 2048 0) (replicate 2048 0) (replicate 2048 0) (replicate 2048 0) (replicate 768 0)
+unfolding tableOf placed
+fresh-table = rw (listed-const 8 0 256, listed-const 0 0 256, listed-const 0 0 2048)
 
 -- the first of many zeros
 first-zeros : (n m : ℕ) → n ≤ m → take {A = ℕ} n (replicate m 0) ≡ replicate n 0
@@ -75,21 +79,34 @@ module _ (t : List ℕ) (l : length t ≡ 9473) (os es hs gs vs xs rs : List ℕ
       → xs ≡ replicate (length (take 2048 (drop 6657 t₅))) 0
       → rs ≡ replicate (length (take 768 (drop 8705 t₆))) 0
       → t₇ ≡ tableOf fresh
-  unfolding tableOf placed
   fresh-words eo ee eh eg ev ex er =
       let long : (n c : ℕ) (k : List ℕ) → k ≡ replicate n c → length k ≡ n = λ n c k e. ap length e ∙ length-replicate n c in
-      let p₁ = put-owners (put-last (own-parts t l) 0) os (long 256 8 os eo) in
-      let ze = zeros 257 256 t₁ es (omega (arith, p₁ .whole)) ee in
-      let p₂ = put-epochs p₁ es (long 256 0 es ze) in
-      let zh = zeros 513 2048 t₂ hs (omega (arith, p₂ .whole)) eh in
-      let p₃ = put-held p₂ hs (long 2048 0 hs zh) in
-      let zg = zeros 2561 2048 t₃ gs (omega (arith, p₃ .whole)) eg in
-      let p₄ = put-guards p₃ gs (long 2048 0 gs zg) in
-      let zv = zeros 4609 2048 t₄ vs (omega (arith, p₄ .whole)) ev in
-      let p₅ = put-versions p₄ vs (long 2048 0 vs zv) in
-      let zx = zeros 6657 2048 t₅ xs (omega (arith, p₅ .whole)) ex in
-      let p₆ = put-values p₅ xs (long 2048 0 xs zx) in
-      let zr = zeros 8705 768 t₆ rs (omega (arith, p₆ .whole)) er in
-      joined-of (put-requests p₆ rs (long 768 0 rs zr))
-      ∙ rw (eo, ze, zh, zg, zv, zx, zr)
-      (sym (rw (listed-const 8 0 256, listed-const 0 0 256, listed-const 0 0 2048)))
+      let w₀ = with-last (wordsFrom t) 0 in
+      let z₀ : Sized w₀ = sized-last (sized t l) 0 in
+      let e₀ : set t 0 0 ≡ table w₀ = ap (λ (u : List ℕ). set u 0 0) (sym (table-words t l)) in
+      let w₁ = with-owners w₀ os in
+      let z₁ : Sized w₁ = sized-owners z₀ os (long 256 8 os eo) in
+      let e₁ : t₁ ≡ table w₁ = ap (λ (u : List ℕ). putMid 1 256 u os) e₀ ∙ put-owners w₀ z₀ os in
+      let ze = zeros 257 256 t₁ es (omega (arith, ap length e₁ ∙ length-table w₁ z₁)) ee in
+      let w₂ = with-epochs w₁ es in
+      let z₂ : Sized w₂ = sized-epochs z₁ es (long 256 0 es ze) in
+      let e₂ : t₂ ≡ table w₂ = ap (λ (u : List ℕ). putMid 257 256 u es) e₁ ∙ put-epochs w₁ z₁ es in
+      let zh = zeros 513 2048 t₂ hs (omega (arith, ap length e₂ ∙ length-table w₂ z₂)) eh in
+      let w₃ = with-held w₂ hs in
+      let z₃ : Sized w₃ = sized-held z₂ hs (long 2048 0 hs zh) in
+      let e₃ : t₃ ≡ table w₃ = ap (λ (u : List ℕ). putMid 513 2048 u hs) e₂ ∙ put-held w₂ z₂ hs in
+      let zg = zeros 2561 2048 t₃ gs (omega (arith, ap length e₃ ∙ length-table w₃ z₃)) eg in
+      let w₄ = with-guards w₃ gs in
+      let z₄ : Sized w₄ = sized-guards z₃ gs (long 2048 0 gs zg) in
+      let e₄ : t₄ ≡ table w₄ = ap (λ (u : List ℕ). putMid 2561 2048 u gs) e₃ ∙ put-guards w₃ z₃ gs in
+      let zv = zeros 4609 2048 t₄ vs (omega (arith, ap length e₄ ∙ length-table w₄ z₄)) ev in
+      let w₅ = with-versions w₄ vs in
+      let z₅ : Sized w₅ = sized-versions z₄ vs (long 2048 0 vs zv) in
+      let e₅ : t₅ ≡ table w₅ = ap (λ (u : List ℕ). putMid 4609 2048 u vs) e₄ ∙ put-versions w₄ z₄ vs in
+      let zx = zeros 6657 2048 t₅ xs (omega (arith, ap length e₅ ∙ length-table w₅ z₅)) ex in
+      let w₆ = with-values w₅ xs in
+      let z₆ : Sized w₆ = sized-values z₅ xs (long 2048 0 xs zx) in
+      let e₆ : t₆ ≡ table w₆ = ap (λ (u : List ℕ). putMid 6657 2048 u xs) e₅ ∙ put-values w₅ z₅ xs in
+      let zr = zeros 8705 768 t₆ rs (omega (arith, ap length e₆ ∙ length-table w₆ z₆)) er in
+      ap (λ (u : List ℕ). putMid 8705 768 u rs) e₆ ∙ put-requests w₆ z₆ rs
+      ∙ rw (eo, ze, zh, zg, zv, zx, zr) (sym fresh-table)
