@@ -1,0 +1,29 @@
+// Words of a table.
+ghost use mathlib.Core.Path.{_≡_};
+ghost use lib.ListN.{length, replicate};
+ghost use Rattle.store.specs.Table.{at-most};
+
+// Whether each word of `part` is at most `n`.
+pub fn at_most(part: &[u32], n: u32) -> bool
+    ensures { λ r. ⌜ r ≡ at-most n (now (part .entry)) ⌝ }
+{
+    let mut i = 0;
+    while i < part.len() {
+        if part[i] > n {
+            return false;
+        }
+        i += 1;
+    }
+    true
+}
+
+// Makes each word of `part` be `v`.
+pub fn fill(part: &mut [u32], v: u32)
+    ensures { λ _. ⌜ now (part .exit) ≡ replicate (length (now (part .entry))) v ⌝ }
+{
+    let mut i = 0;
+    while i < part.len() {
+        part[i] = v;
+        i += 1;
+    }
+}
