@@ -12,3 +12,4 @@ pub mod CrossLaws
 pub mod RestartLaws
 pub mod CallLaws
 pub mod RegionLaws
+pub mod LentLaws
