@@ -1,27 +1,16 @@
--- The stores of `copy`, `lay_zeros` and `lay_players`: they make the table of a fresh state.
+-- The stores of `lay_zeros` and `lay_players`: they make the table of a fresh state.
 -- Assumes nothing.
 use mathlib.Core.Path.{_≡_, refl, sym, ap, _∙_}
 use mathlib.Core.List.{List, _∷_}
-use Prim.Native.Nat.{ℕ, zero, suc, _+_, _≤_, _<_}
+use Prim.Native.Nat.{ℕ, zero, suc, _+_, _≤_}
 use native.Mathlib.Omega.{arith}
-use native.Mathlib.Numerals.{add-one}
-use lib.ListN.{length, getD, take, drop, set, replicate, length-replicate}
-use lib.Seq.{take-suc, take-suc-set, take-all}
+use lib.ListN.{length, take, drop, set, replicate, length-replicate}
 use borrow.Rule.Slice.PartMut.{putMid}
 use Rattle.store.specs.Table.{listed}
 use Rattle.players.specs.Rules.{fresh}
 use Rattle.requests.specs.Region.{placed}
 use Rattle.players.specs.Table.{region, joined, tableOf}
 use Rattle.players.proofs.Regions.{length-region, wordsFrom, table, Sized, with-last, with-owners, with-epochs, with-held, with-guards, with-versions, with-values, sized, sized-last, sized-owners, sized-epochs, sized-held, sized-guards, sized-versions, sized-values, length-table, table-words, put-owners, put-epochs, put-held, put-guards, put-versions, put-values, put-requests}
-
--- ---- `copy`: one number more is written, and all are
-
-module _ (p f : List ℕ) (i : ℕ) (e : length p ≡ length f) (q : take i p ≡ take i f) where
-  pub copy-more : i < length p → take (i + 1) (set p i (getD f i 0)) ≡ take (i + 1) f
-  copy-more h = rw (add-one, take-suc-set p i (getD f i 0) h, take-suc f i 0 (omega arith), q)
-
-  pub copy-end : length p ≤ i → p ≡ f
-  copy-end h = sym (take-all i p h) ∙ q ∙ take-all i f (omega arith)
 
 -- ---- `lay_zeros` and `lay_players`
 

@@ -52,13 +52,13 @@ pub(crate) fn players_hold(players: &[u32]) -> bool
     if last > 4_000_000 {
         return false;
     }
-    if !requests::words::at_most(&players[1..257], 8) {
+    if !store::words::at_most(&players[1..257], 8) {
         return false;
     }
-    if !requests::words::at_most(&players[257..513], last) {
+    if !store::words::at_most(&players[257..513], last) {
         return false;
     }
-    if !requests::words::at_most(&players[513..2561], last) {
+    if !store::words::at_most(&players[513..2561], last) {
         return false;
     }
     if !values_hold(players) {

@@ -4,7 +4,6 @@ mod places;
 pub mod region;
 mod rules;
 mod tests;
-pub mod words;
 
 // A request in flight (document: row). Fields that its kind lacks are 0, and so is the outcome before delivery.
 pub struct Request {

@@ -1,7 +1,7 @@
 // One place of the region: 12 words, which hold a request.
 use crate::Request;
 use crate::tests;
-use crate::words;
+use store::words;
 ghost use mathlib.Core.Path.{_≡_};
 ghost use mathlib.Core.Bool.{cond, not, _&&_};
 ghost use Prim.Native.Nat.{_+_, _*_, _%_, _≤_, _<_};

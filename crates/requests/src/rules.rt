@@ -1,7 +1,7 @@
 // The rules of the region, tested.
 use crate::Request;
 use crate::places;
-use crate::words;
+use store::words;
 ghost use mathlib.Core.Path.{_≡_};
 ghost use mathlib.Core.Bool.{_&&_};
 ghost use Prim.Native.Nat.{_*_, _<_};

@@ -1,5 +1,5 @@
 // What the players have for each entry, in the players' table: the guards that they hold, and the values that they have cached.
-use requests::words;
+use store::words;
 ghost use mathlib.Core.Path.{_≡_};
 ghost use Prim.Native.Nat.{_+_, _-_, _*_, _≤_, _<_};
 ghost use lib.ListN.{length};
