@@ -1,0 +1,2 @@
+-- The steps on lent tables: what a step does to them, and the words that its code reads and writes (Calls).
+pub mod Calls
