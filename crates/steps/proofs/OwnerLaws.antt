@@ -1,11 +1,9 @@
 -- The steps that change owners: assign and release.
 -- Assumes nothing.
 use mathlib.Core.Path.{_≡_, refl, sym, ap, _∙_}
-use mathlib.Core.Bool.{Bool}
 use mathlib.Core.List.{List}
 use Prim.Native.Nat.{ℕ, _+_, _-_, _≤_, _<_}
 use native.Mathlib.Omega.{arith}
-use lib.Dec.{T}
 use lib.ListN.{length, getD, take, drop, set, replicate, length-set}
 use borrow.Author.Tests.{lt-ltb, le-ltb, le-leb, lt-leb}
 use borrow.Rule.Slice.PartMut.{putMid}
@@ -13,15 +11,15 @@ use Rattle.store.specs.declared.Reply.{Reply}
 use Rattle.store.specs.declared.Range.{Range}
 use Rattle.store.specs.Model.{fill}
 use Rattle.store.specs.Table.{listed}
+use Rattle.store.proofs.Lists.{length-listed}
 use Rattle.players.specs.declared.Step.the-variants.{Assign}
 use Rattle.players.specs.Replies.{refusal, issued}
 use Rattle.players.specs.Rules.{State, Result, set-owner, step}
-use Rattle.players.specs.Table.{region, last-word, owner-words, epoch-words, stateOf, tableOf, valid}
+use Rattle.players.specs.Table.{owner-words, epoch-words, stateOf, tableOf}
 use Rattle.players.proofs.Regions.{Words, Sized, table, with-last, with-owners, with-epochs, sized-last, sized-owners, length-table, read-owners, read-epochs, put-owners, put-epochs}
 use Rattle.players.proofs.Tables.{wordsIn, sized-state, tableOf-is, players-table-back}
-use Rattle.store.proofs.Lists.{length-listed}
 use Rattle.steps.specs.Calls.{Moves, filled}
-use Rattle.steps.specs.StoreCalls.{owner-set, owned}
+use Rattle.steps.specs.OwnerCalls.{owner-set, owned}
 use Rattle.steps.proofs.WordLaws.{fill-part, length-filled}
 use Rattle.steps.proofs.RunLaws.{run, filled-region, run-listed}
 

@@ -25,7 +25,7 @@ use Rattle.players.specs.declared.Step.the-variants.{Deliver, Split, Merge, Res
 use Rattle.players.specs.Replies.{refusal, done, no-such-request}
 use Rattle.players.specs.Rules.{State, Result, with-requests, with-store, check, settled, deliver, step}
 use Rattle.players.specs.Table.{region, last-word, request-words, stateOf, tableOf, valid}
-use Rattle.players.specs.Calls.{Done, left, encoded, whole}
+use Rattle.players.specs.Calls.{left, encoded, whole}
 use Rattle.players.proofs.Regions.{put-requests}
 use Rattle.players.proofs.CallLaws.{same-tables}
 use Rattle.players.proofs.Tables.{wordsIn, sized-state, tableOf-is, rules, valid-store-words, valid-players-words, ok-tables, players-table-back}

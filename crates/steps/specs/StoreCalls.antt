@@ -1,24 +1,21 @@
--- What the steps on the store's table do, and the step on both tables.
+-- What the steps on the store's table do, and deliver, which is a step on both tables.
 -- Assumes nothing.
 use mathlib.Core.Path.{_≡_}
 use mathlib.Core.Bool.{Bool, cond}
 use mathlib.Core.List.{List}
 use Prim.Native.Nat.{ℕ}
 use lib.Dec.{T}
-use lib.ListN.{length, take, drop, set}
+use lib.ListN.{length, take, drop}
 use borrow.Rule.Slice.PartMut.{putMid}
 use Rattle.store.specs.declared.Reply.{Reply}
-use Rattle.store.specs.declared.Range.{Range}
-use Rattle.store.specs.Model.{Store, bad-range}
+use Rattle.store.specs.Model.{Store}
 use Rattle.store.specs.Calls.{Result as StoreResult, install, read, commit}
 use Rattle.requests.specs.declared.Request.{Request}
 use Rattle.requests.specs.Model.{is-guard-request, is-read}
 use Rattle.requests.specs.Calls.{with-delivered, without}
-use Rattle.players.specs.Replies.{out-of-range}
-use Rattle.players.specs.Rules.{State, Result, check, need-serial, set-owner}
+use Rattle.players.specs.Rules.{State, Result}
 use Rattle.players.specs.Table.{stateOf, valid}
 use Rattle.players.specs.Calls.{left, encoded}
-use Rattle.steps.specs.Calls.{filled}
 
 -- a step that leaves the players' table alone: what it does to a store's table that keeps the rules beside some players'
 pub record Shifts (f : State → Result) (st : List ℕ) (r : Reply) (st′ : List ℕ) : Type 0 where
@@ -27,16 +24,6 @@ pub record Shifts (f : State → Result) (st : List ℕ) (r : Reply) (st′ : Li
 -- a step on both tables: what it does to tables that keep the rules
 pub record Acts (f : State → Result) (st t : List ℕ) (r : Reply) (st′ t′ : List ℕ) : Type 0 where
   pub acted : T (valid st t) → left r st′ t′ ≡ encoded (f (stateOf st t))
-
--- ---- 1 assign, 2 release
-
--- what both do, p being the owner: the range and the serial are tested, then owner and epoch set
-abbrev pub owner-set : ℕ → Range → State → Result
-owner-set p g s = check s (bad-range g) out-of-range (need-serial s (set-owner s p g))
-
--- the words of that: n is the serial that it takes
-unfoldable pub owned : ℕ → ℕ → ℕ → ℕ → List ℕ → List ℕ
-owned p n lo hi t = filled 257 lo hi n (filled 1 lo hi p (set t 0 n))
 
 -- ---- 6 deliver
 

@@ -10,7 +10,7 @@ ghost use lib.ListN.{length};
 ghost use Rattle.players.specs.Rules.{step};
 ghost use Rattle.players.specs.declared.Step.the-variants.{Assign, Release};
 ghost use Rattle.steps.specs.Calls.{Moves};
-ghost use Rattle.steps.specs.StoreCalls.{owner-set, owned};
+ghost use Rattle.steps.specs.OwnerCalls.{owner-set, owned};
 
 // The next serial is taken, and is the epoch of the entries from `low` up to `high`, whose owner is set.
 fn own(players: &mut [u32], owner: u32, serial: u32, low: usize, high: usize)
@@ -39,8 +39,9 @@ fn set_owner(players: &mut [u32], owner: u32, range: Range) -> Reply
     if last >= 4_000_000 {
         return refuse(34);
     }
-    own(players, owner, last + 1, low, high);
-    issued(last + 1)
+    let serial = last + 1;
+    own(players, owner, serial, low, high);
+    issued(serial)
 }
 
 // Step 1: the player owns the entries of the range.

@@ -44,14 +44,11 @@ returns-3 c =
     let x = i .before .before .before .before in
     rw (c .refuse3 .ensures) (spent-moves (x .args .players .now) (x .pre) (x .args .owner) (x .args .range) (i .if1 .left) (j .if2 .left) (k .if3 .taken))
 
-add-own : tie.Need-add-own
-add-own c = search needs
+add-serial : tie.Need-add-serial
+add-serial c = search needs
 
 own-requires : tie.Need-own-requires
 own-requires c κs = search needs
-
-add-issued : tie.Need-add-issued
-add-issued c = search needs
 
 issued-requires : tie.Need-issued-requires
 issued-requires c κs = search needs
@@ -81,9 +78,8 @@ set-owner-spec =
     slice-read-last
     refuse-requires-3
     returns-3
-    add-own
+    add-serial
     own-requires
-    add-issued
     issued-requires
     same-length
     returns-4)
