@@ -116,13 +116,14 @@ module _ (t : List ℕ) (l : length t ≡ 9473) (p : ℕ) (g : Range) where
                 λ st ls v.
                 let s = stateOf st t in
                 let n : getD t 0 0 ≡ s .last = sym (last-is st) in
-                let e = owned-is s (omega arith) in
-                (er ∙ ap (λ (i : ℕ). issued (i + 1)) n ∙ ap (λ (x : Result). x .reply) (sym e),
-                et
-                ∙ ap (λ (i : ℕ). owned p (i + 1) (g .low) (g .high) t) n
-                ∙ ap (λ (u : List ℕ). owned p (s .last + 1) (g .low) (g .high) u) (sym (players-table-back st t v ls l))
-                ∙ owned-table s p g (omega arith) k
-                ∙ ap (λ (x : Result). tableOf (x .state)) (sym e));
+                let e = owned-is s (omega arith) in (
+                  er ∙ ap (λ (i : ℕ). issued (i + 1)) n ∙ ap (λ (x : Result). x .reply) (sym e),
+                  et
+                      ∙ ap (λ (i : ℕ). owned p (i + 1) (g .low) (g .high) t) n
+                      ∙ ap (λ (u : List ℕ). owned p (s .last + 1) (g .low) (g .high) u) (sym (players-table-back st t v ls l))
+                      ∙ owned-table s p g (omega arith) k
+                      ∙ ap (λ (x : Result). tableOf (x .state)) (sym e),
+                );
           }
 
   -- ---- 1 assign: the player is tested first

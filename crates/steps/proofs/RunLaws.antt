@@ -109,4 +109,3 @@ run-listed f n lo hi v a h =
     run-at lo hi v (listed f 0 n) a (omega arith) i
     ∙ ap (λ (x : ℕ). cond (within lo hi i) v x) (getD-listed f 0 n i j ∙ ap f (zero-add i))
     ∙ sym (getD-listed (fill lo hi v f) 0 n i j ∙ ap (fill lo hi v f) (zero-add i)))
-
