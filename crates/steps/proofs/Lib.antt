@@ -3,3 +3,4 @@ pub mod WordLaws
 pub mod RunLaws
 pub mod OwnerLaws
 pub mod StoreStepLaws
+pub mod JoinLaws
