@@ -1,6 +1,8 @@
 // The steps, on the store's table and the players'.
 mod cells;
+mod owner_steps;
 mod players_steps;
+mod store_steps;
 
 use store::Reply;
 ghost use mathlib.Core.Path.{_≡_};
