@@ -3,6 +3,7 @@ use crate::issued;
 use crate::refuse;
 use store::Range;
 use store::Reply;
+use store::words;
 ghost use mathlib.Core.Path.{_≡_};
 ghost use Prim.Native.Nat.{_≤_};
 ghost use lib.ListN.{length};
