@@ -1,0 +1,9 @@
+-- A session: the layout of a record (Layout), what its bytes mean (Records), what writing to a buffer does (Written), the session's mark
+-- (Mark), a run (Runs), the document's cases (Cases), and the text of a listing (Listing).
+pub mod Layout
+pub mod Records
+pub mod Written
+pub mod Mark
+pub mod Runs
+pub mod Cases
+pub mod Listing
