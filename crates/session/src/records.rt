@@ -132,23 +132,32 @@ fn range_bytes(map: u8, kind: u8, player: u8, range: Range) -> Encoded
 
 // Map, kind and range.
 fn release_bytes(range: Range) -> Encoded
-    ensures { λ r. ⌜ (r .size ≡ 5) × (r .bytes ≡ 13 ∷ 2 ∷ range .low ∷ (bytes 2 (range .high) ++ (0 ∷ 0 ∷ 0 ∷ []))) ⌝ }
+    ensures { λ r. ⌜ (r .size ≡ 5) × (r .bytes ≡ 0x0D ∷ 2 ∷ range .low ∷ (bytes 2 (range .high) ++ (0 ∷ 0 ∷ 0 ∷ []))) ⌝ }
 {
     let low = range.low;
     let high = range.high;
     Encoded {
-        bytes: [13, 2, low, (high % 256) as u8, (high / 256) as u8, 0, 0, 0],
+        bytes: [
+            0x0D,
+            2,
+            low,
+            (high % 256) as u8,
+            (high / 256) as u8,
+            0,
+            0,
+            0,
+        ],
         size: 5,
     }
 }
 
 // Map, kind, player, entry and value.
 fn write_bytes(player: u8, entry: u8, value: u32) -> Encoded
-    ensures { λ r. ⌜ (r .size ≡ 8) × (r .bytes ≡ 23 ∷ 5 ∷ player ∷ entry ∷ bytes 4 value) ⌝ }
+    ensures { λ r. ⌜ (r .size ≡ 8) × (r .bytes ≡ 0x17 ∷ 5 ∷ player ∷ entry ∷ bytes 4 value) ⌝ }
 {
     Encoded {
         bytes: [
-            23,
+            0x17,
             5,
             player,
             entry,
@@ -163,11 +172,11 @@ fn write_bytes(player: u8, entry: u8, value: u32) -> Encoded
 
 // Map, kind and serial.
 fn serial_bytes(kind: u8, serial: u32) -> Encoded
-    ensures { λ r. ⌜ (r .size ≡ 6) × (r .bytes ≡ 33 ∷ kind ∷ (bytes 4 serial ++ (0 ∷ 0 ∷ []))) ⌝ }
+    ensures { λ r. ⌜ (r .size ≡ 6) × (r .bytes ≡ 0x21 ∷ kind ∷ (bytes 4 serial ++ (0 ∷ 0 ∷ []))) ⌝ }
 {
     Encoded {
         bytes: [
-            33,
+            0x21,
             kind,
             (serial % 256) as u8,
             (serial / 256 % 256) as u8,
@@ -195,11 +204,11 @@ fn bytes_of(step: Step) -> Encoded
     ensures { λ r. ⌜ (r .size ≡ length (encode step)) × (take (r .size) (r .bytes) ≡ encode step) × (r .size ≤ 8) ⌝ }
 {
     match step {
-        Step::Assign { player, range } => range_bytes(15, 1, player, range),
+        Step::Assign { player, range } => range_bytes(0x0F, 1, player, range),
         Step::Release { range } => release_bytes(range),
-        Step::RequestGuard { player, range } => range_bytes(15, 3, player, range),
+        Step::RequestGuard { player, range } => range_bytes(0x0F, 3, player, range),
         Step::Read { player, entry } => Encoded {
-            bytes: [7, 4, player, entry, 0, 0, 0, 0],
+            bytes: [0x07, 4, player, entry, 0, 0, 0, 0],
             size: 4,
         },
         Step::Write {
@@ -211,10 +220,10 @@ fn bytes_of(step: Step) -> Encoded
         Step::Respond { serial } => serial_bytes(7, serial),
         Step::Abandon { serial } => serial_bytes(8, serial),
         Step::Lose { serial } => serial_bytes(9, serial),
-        Step::Split { entry } => short_bytes(5, 10, entry),
-        Step::Merge { entry } => short_bytes(5, 11, entry),
-        Step::RestartTablet { entry } => short_bytes(5, 12, entry),
-        Step::RestartPlayer { player } => short_bytes(3, 13, player),
+        Step::Split { entry } => short_bytes(0x05, 10, entry),
+        Step::Merge { entry } => short_bytes(0x05, 11, entry),
+        Step::RestartTablet { entry } => short_bytes(0x05, 12, entry),
+        Step::RestartPlayer { player } => short_bytes(0x03, 13, player),
     }
 }
 
