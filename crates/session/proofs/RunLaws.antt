@@ -12,11 +12,12 @@ use lib.Dec.{eqb, leb}
 use borrow.Author.Tests.{lt-ltb, le-ltb, ne-eqb}
 use Rattle.players.specs.declared.Step.{Step}
 use Rattle.players.specs.Rules.{State, step}
+use Rattle.session.specs.declared.Report.{Report}
 use Rattle.session.specs.declared.Decoded.{Decoded}
 use Rattle.session.specs.declared.Decoded.the-variants.{Record, Refused}
 use Rattle.session.specs.Records.{cut-short, tested, decode, encode, encode-all, Bytes}
 use Rattle.session.specs.Mark.{mark, marked}
-use Rattle.session.specs.Runs.{Report, report, Run, at-end, too-long, longest, stopped, run-from, allowed, run, steps-from, steps}
+use Rattle.session.specs.Runs.{report, Run, at-end, too-long, longest, stopped, run-from, allowed, run, steps-from, steps}
 use Rattle.session.proofs.MarkLaws.{begins-take, begins-append}
 use Rattle.session.proofs.RoundTrip.{read-back, only-bytes, only-length, within}
 

@@ -25,6 +25,10 @@ all-put bytes out after h e = simp (le-ltb (length out) (length bytes) h, e)
 pub take-whole : (n : ℕ) (l bytes : List ℕ) → take n l ≡ bytes → n ≡ length bytes → n ≤ length l
 take-whole n l bytes e h = let z = sym (length-take n l) ∙ ap length e in omega arith
 
+-- the first n elements are no more than n
+pub take-few : (n m : ℕ) (l : List ℕ) → n ≤ m → length (take n l) ≤ m
+take-few n m l h = rw (length-take n l) (omega arith)
+
 -- one byte more
 pub put-more : (b d : List ℕ) (i : ℕ) → i < length b → i < length d
     → set (take i b ++ drop i d) i (getD b i 0) ≡ take (i + 1) b ++ drop (i + 1) d

@@ -28,7 +28,7 @@ pub record Case : Type 0 where
 abbrev case : Given → List Reply → Case
 case g rs = record { given = g; expected = rs }
 
--- the replies to steps; the of a record, as a refusal; the replies of a run from the fresh state, and last its report
+-- the replies to steps; the number of a record, as a refusal; the replies of a run from the fresh state, and last its report
 abbrev pub found : Given → List Reply
 found (steps s xs) = replies s xs
 found (record-bytes s) = refusal (numbers (decode s) .code) ∷ []

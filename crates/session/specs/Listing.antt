@@ -1,4 +1,4 @@
--- The text of a listing, byte by byte.
+-- The text of a listing, byte by byte. Quoted words are document 01's.
 -- Assumes nothing.
 use mathlib.Core.Path.{_≡_, refl}
 use mathlib.Core.Bool.{cond}
@@ -11,28 +11,29 @@ use Rattle.players.specs.Rules.{fresh}
 use Rattle.session.specs.Layout.{fields-length, record-length, fields, map-of}
 use Rattle.session.specs.Records.{step-of, tested}
 use Rattle.session.specs.Mark.{begins}
-use Rattle.session.specs.Runs.{Report, Run, run, run-from}
+use Rattle.session.specs.declared.Report.{Report}
+use Rattle.session.specs.Runs.{Run, run, run-from}
 use Rattle.session.specs.Cases.{worked-session}
 
 -- ---- text
 
 -- a space, and a line feed
-abbrev space : ℕ
+abbrev pub space : ℕ
 space = 0x20
 
-abbrev line-feed : ℕ
+abbrev pub line-feed : ℕ
 line-feed = 0x0A
 
--- the decimal digits of a of at most k digits, with no zeros in front
-abbrev pub digits : ℕ → ℕ → List ℕ
+-- the decimal digits of a number of at most k digits, with no zeros in front
+unfoldable pub digits : ℕ → ℕ → List ℕ
 digits zero n = []
 digits (suc k) n = cond (ltb n 10) ((0x30 + n) ∷ []) (digits k (n / 10) ++ ((0x30 + n % 10) ∷ []))
 
--- a of 64 bits has at most 20
+-- a number of 32 bits has at most ten
 abbrev pub decimal : ℕ → List ℕ
-decimal n = digits 20 n
+decimal n = digits 10 n
 
--- three numbers, each after a space, and the line's end
+-- three numbers, each after a space, and the line's end: "each closed by one line feed"
 abbrev pub three : ℕ → ℕ → ℕ → List ℕ
 three a b c = space ∷ decimal a ++ (space ∷ decimal b ++ (space ∷ decimal c ++ (line-feed ∷ [])))
 
@@ -42,22 +43,26 @@ three a b c = space ∷ decimal a ++ (space ∷ decimal b ++ (space ∷ decimal 
 abbrev pub header : List ℕ
 header = 0x73 ∷ 0x74 ∷ 0x65 ∷ 0x70 ∷ space ∷ 0x63 ∷ 0x6F ∷ 0x64 ∷ 0x65 ∷ space ∷ 0x61 ∷ space ∷ 0x62 ∷ line-feed ∷ []
 
--- the replies, each with its step's ordinal, from n on
+-- "step ordinal and reply"
+abbrev pub reply-line : ℕ → Reply → List ℕ
+reply-line n r = decimal n ++ three (r .code) (r .a) (r .b)
+
+-- those of replies, the first with the ordinal n
 abbrev pub reply-lines : ℕ → List Reply → List ℕ
 reply-lines n [] = []
-reply-lines n (r ∷ rs) = decimal n ++ (three (r .code) (r .a) (r .b) ++ reply-lines (n + 1) rs)
+reply-lines n (r ∷ rs) = reply-line n r ++ reply-lines (n + 1) rs
 
--- "end", why the run stopped, the records taken, and the place
+-- "last, why, records taken, place", after "end"
 abbrev pub end-line : Report → List ℕ
 end-line r = 0x65 ∷ 0x6E ∷ 0x64 ∷ three (r .why) (r .records) (r .place)
 
--- of a run; a refused one has no replies, and its number, 0 and 0 at the end
+-- of a run: "For a refused run only the header and an end line: its number, 0, 0."
 abbrev pub listing : Run → List ℕ
 listing r = header ++ (reply-lines 1 (r .replies) ++ end-line (r .report))
 
 -- ---- the program
 
--- the listing program's budget and list places
+-- "begins fresh with a budget of 16,384 and 5,460 list places"
 abbrev pub budget : ℕ
 budget = 16384
 
@@ -92,10 +97,10 @@ worked-listing =
 
 -- the document's session prints the document's listing
 pub worked : printed worked-session ≡ worked-listing
-unfolding unbroken fields-length record-length fields map-of step-of tested begins run-from
+unfolding unbroken fields-length record-length fields map-of step-of tested begins run-from digits
 worked = refl
 
 -- no session prints the header and the end line of a refused run: 23 0 0
 pub empty : printed [] ≡ header ++ (0x65 ∷ 0x6E ∷ 0x64 ∷ 0x20 ∷ 0x32 ∷ 0x33 ∷ 0x20 ∷ 0x30 ∷ 0x20 ∷ 0x30 ∷ 0x0A ∷ [])
-unfolding begins
+unfolding begins digits
 empty = refl
