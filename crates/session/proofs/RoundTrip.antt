@@ -1,0 +1,116 @@
+-- What was written reads back as the same step, and the bytes that are accepted for a step are the only ones for it.
+-- Assumes nothing.
+use mathlib.Core.Path.{_≡_, _∙_, refl, sym, ap}
+use mathlib.Core.List.{List, [], _∷_, _++_}
+use Prim.Native.Nat.{ℕ, _%_, _≤_}
+use native.Mathlib.Omega.{arith}
+use lib.Dec.{lit≤}
+use lib.ListN.{length, getD, take, drop, length-append}
+use lib.Seq.{take-add, length-take-le}
+use borrow.Author.Tests.{eq-eqb}
+use Rattle.players.specs.declared.Step.{Step}
+use Rattle.session.specs.Layout.{widths, record-length, fields-length, fields, field-bytes, map-of}
+use Rattle.session.specs.declared.Decoded.{Decoded}
+use Rattle.session.specs.declared.Decoded.the-variants.{Record, Refused}
+use Rattle.session.specs.Records.{kind-and-fields, kind, step-of, map-at, kind-at, fields-at, tested, decode, Numbers, taken, refused, Decodes, encode, Bytes}
+use Rattle.session.proofs.Tested.{Accepted, accepted, Outcome, refuses, accepts, outcome}
+use Rattle.session.proofs.FieldLaws.{length-fields, fields-back, field-bytes-back}
+use Rattle.session.proofs.StepLaws.{Known, known, kind-map, Reads, reads}
+
+-- ---- what was written
+
+-- the length of a step's record
+pub length-encode : (x : Step) → length (encode x) ≡ record-length (map-of (kind x))
+unfolding record-length
+length-encode x = let e = length-fields widths (map-of (kind x)) (kind-and-fields x) in omega arith
+
+module _ (x : Step) (rest : List ℕ) where
+  -- what is read in a step's record: its kind and its fields
+  fields-read : fields-at (encode x ++ rest) ≡ kind-and-fields x
+  fields-read =
+      let m = map-of (kind x) in
+      fields-back widths m (kind-and-fields x) (m ∷ []) rest (lit≤ tt, (lit≤ tt, (lit≤ tt, (lit≤ tt, (lit≤ tt, (lit≤ tt, tt)))))) (known x .fields)
+
+  kind-read : kind-at (encode x ++ rest) ≡ kind x
+  unfolding fields
+  kind-read =
+      let m = map-of (kind x) in
+      let h = ap (λ (l : List ℕ). getD l 0 0) fields-read in
+      rw (eq-eqb (m % 2) 1 (kind-map (kind x) (known x .from) (known x .to) .odd)) at h
+
+  written-accepted : Accepted (encode x ++ rest)
+  written-accepted =
+      let k = known x in
+      let m = kind-map (kind x) (k .from) (k .to) in
+      let n = length-append (encode x) rest in
+      let l = length-encode x in
+      accepted (encode x ++ rest) (λ e. omega arith) (m .low) (omega arith) (m .odd) (rw kind-read (k .from)) (rw kind-read (k .to)) (rw kind-read)
+
+  -- a record that was written reads back as the same step
+  pub read-back : decode (encode x ++ rest) ≡ Record x (length (encode x))
+  read-back =
+      written-accepted .takes Decoded Refused _ ∙ rw (kind-read, fields-read, known x .same, length-encode x)
+
+-- ---- what is accepted
+
+-- a record that passes all tests
+module _ (s : List ℕ) (a : Accepted s) where
+  read : Reads s (kind-at s)
+  read = reads s (kind-at s) (a .from) (a .to) refl
+
+  pub record-decodes : (k : ℕ) → k ≡ kind-at s → (x : Step) → x ≡ step-of k (fields widths (map-of k) s 1) → (n : ℕ) → n ≡ record-length (map-at s) → Decodes s (Record x n)
+  record-decodes k ek x ex n en =
+      let e : x ≡ step-of (kind-at s) (fields-at s) = ex ∙ rw (ek, a .map) in
+      record {
+        answer = rw (a .takes Decoded Refused _, e, en);
+        numbered =
+            rw (a .takes Numbers refused _, en)
+            (ap (taken (record-length (map-at s))) (ap kind-and-fields e ∙ rw (a .map) (read .whole)));
+      }
+
+-- what the decoder accepted
+record Found (s : List ℕ) (x : Step) (n : ℕ) : Type 1 where
+  passed : Accepted s
+  step : step-of (kind-at s) (fields-at s) ≡ x
+  size : record-length (map-at s) ≡ n
+
+found : (s : List ℕ) (x : Step) (n : ℕ) → decode s ≡ Record x n → Found s x n
+found s x n h = by (outcome s)
+  where
+    by : Outcome s → Found s x n
+    by (refuses m r) = absurd (let e = sym (r Decoded Refused _) ∙ h in let z : _≡_ {A = ℕ} 0 1 = cc in omega arith)
+    by (accepts a) =
+        let e : Record (step-of (kind-at s) (fields-at s)) (record-length (map-at s)) ≡ Record x n = sym (a .takes Decoded Refused _) ∙ h in
+        record { passed = a; step = cc; size = cc }
+
+-- an accepted record has a byte at least, and lies within what was handed in
+pub within : (s : List ℕ) (x : Step) (n : ℕ) → decode s ≡ Record x n → (1 ≤ n) × (n ≤ length s)
+unfolding record-length
+within s x n h =
+    let f = found s x n h in
+    (omega (arith, f .size), omega (arith, f .size, f .passed .long))
+
+first-byte : (s : List ℕ) → 1 ≤ length s → (rest : List ℕ) → take 1 s ++ rest ≡ map-at s ∷ rest
+first-byte [] h rest = absurd (omega arith)
+first-byte (b ∷ s) h rest = refl
+
+module _ (s : List ℕ) (x : Step) (n : ℕ) (b : Bytes s) (h : decode s ≡ Record x n) where
+  -- the bytes accepted for a step are those of its record: no others are accepted for it
+  pub only-bytes : take n s ≡ encode x
+  unfolding record-length
+  only-bytes =
+      let f = found s x n h in
+      let a = f .passed in
+      let m = map-at s in
+      let r = read s a in
+      let k : kind x ≡ kind-at s = ap kind (sym (f .step)) ∙ rw (a .map) (r .kinds) in
+      let v : kind-and-fields x ≡ fields-at s = ap kind-and-fields (sym (f .step)) ∙ rw (a .map) (r .whole) in
+      let e : encode x ≡ m ∷ field-bytes widths m (fields-at s) = rw (k, v, a .map) in
+      ap (λ (i : ℕ). take i s) (sym (f .size))
+      ∙ take-add 1 (fields-length widths m) s
+      ∙ first-byte s (omega (arith, a .some)) (take (fields-length widths m) (drop 1 s))
+      ∙ ap (λ (l : List ℕ). m ∷ l) (sym (field-bytes-back s b widths m 1 (omega (arith, a .long))))
+      ∙ sym e
+
+  pub only-length : n ≡ length (encode x)
+  only-length = sym (length-take-le n s (within s x n h .1)) ∙ ap length only-bytes

@@ -1,0 +1,166 @@
+-- `session::records::step_of` meets its contract: an arm a kind.
+-- Assumes nothing.
+use native.Mathlib.Nat.{le-antisymm}
+use Rattle.session.specs.Layout.{fields, map-of}
+use Rattle.session.specs.Records.{step-of}
+use borrow.Author.Needs.{needs}
+use Rattle.session.proofs.StepLaws.{beyond}
+use Rattle.session.proofs.records.step_of.Statement.{statement}
+use Rattle.session.proofs.records.step_of.Tie as tie
+
+byte-at-requires : tie.Need-byte-at-requires
+byte-at-requires c κs = search needs
+
+range-at-requires : tie.Need-range-at-requires
+range-at-requires c κs = search needs
+
+range-at-requires-2 : tie.Need-range-at-requires-2
+range-at-requires-2 c κs = search needs
+
+byte-at-requires-2 : tie.Need-byte-at-requires-2
+byte-at-requires-2 c κs = search needs
+
+range-at-requires-3 : tie.Need-range-at-requires-3
+range-at-requires-3 c κs = search needs
+
+byte-at-requires-3 : tie.Need-byte-at-requires-3
+byte-at-requires-3 c κs = search needs
+
+byte-at-requires-4 : tie.Need-byte-at-requires-4
+byte-at-requires-4 c κs = search needs
+
+byte-at-requires-5 : tie.Need-byte-at-requires-5
+byte-at-requires-5 c κs = search needs
+
+byte-at-requires-6 : tie.Need-byte-at-requires-6
+byte-at-requires-6 c κs = search needs
+
+word32-requires : tie.Need-word32-requires
+word32-requires c κs = search needs
+
+word32-requires-2 : tie.Need-word32-requires-2
+word32-requires-2 c κs = search needs
+
+word32-requires-3 : tie.Need-word32-requires-3
+word32-requires-3 c κs = search needs
+
+word32-requires-4 : tie.Need-word32-requires-4
+word32-requires-4 c κs = search needs
+
+word32-requires-5 : tie.Need-word32-requires-5
+word32-requires-5 c κs = search needs
+
+byte-at-requires-7 : tie.Need-byte-at-requires-7
+byte-at-requires-7 c κs = search needs
+
+byte-at-requires-8 : tie.Need-byte-at-requires-8
+byte-at-requires-8 c κs = search needs
+
+byte-at-requires-9 : tie.Need-byte-at-requires-9
+byte-at-requires-9 c κs = search needs
+
+byte-at-requires-10 : tie.Need-byte-at-requires-10
+byte-at-requires-10 c κs = search needs
+
+returns : tie.Need-returns
+unfolding step-of map-of fields
+returns c = rw (c .before .before .match .keys1, c .before .byte-at .ensures, c .range-at .ensures .0, c .range-at .ensures .1)
+
+returns-2 : tie.Need-returns-2
+unfolding step-of map-of fields
+returns-2 c = rw (c .before .match .keys2, c .range-at2 .ensures .0, c .range-at2 .ensures .1)
+
+returns-3 : tie.Need-returns-3
+unfolding step-of map-of fields
+returns-3 c = rw (c .before .before .match .keys3, c .before .byte-at2 .ensures, c .range-at3 .ensures .0, c .range-at3 .ensures .1)
+
+returns-4 : tie.Need-returns-4
+unfolding step-of map-of fields
+returns-4 c = rw (c .before .before .match .keys4, c .before .byte-at3 .ensures, c .byte-at4 .ensures)
+
+returns-5 : tie.Need-returns-5
+unfolding step-of map-of fields
+returns-5 c = rw (c .before .before .before .match .keys5, c .before .before .byte-at5 .ensures, c .before .byte-at6 .ensures, c .word32 .ensures)
+
+returns-6 : tie.Need-returns-6
+unfolding step-of map-of fields
+returns-6 c = rw (c .before .match .keys6, c .word322 .ensures)
+
+returns-7 : tie.Need-returns-7
+unfolding step-of map-of fields
+returns-7 c = rw (c .before .match .keys7, c .word323 .ensures)
+
+returns-8 : tie.Need-returns-8
+unfolding step-of map-of fields
+returns-8 c = rw (c .before .match .keys8, c .word324 .ensures)
+
+returns-9 : tie.Need-returns-9
+unfolding step-of map-of fields
+returns-9 c = rw (c .before .match .keys9, c .word325 .ensures)
+
+returns-10 : tie.Need-returns-10
+unfolding step-of map-of fields
+returns-10 c = rw (c .before .match .keys10, c .byte-at7 .ensures)
+
+returns-11 : tie.Need-returns-11
+unfolding step-of map-of fields
+returns-11 c = rw (c .before .match .keys11, c .byte-at8 .ensures)
+
+returns-12 : tie.Need-returns-12
+unfolding step-of map-of fields
+returns-12 c = rw (c .before .match .keys12, c .byte-at9 .ensures)
+
+returns-13 : tie.Need-returns-13
+unfolding step-of map-of fields
+returns-13 c =
+    let k = c .before .before .before .args .kind in
+    let r = c .before .match .rest in
+    let b1 = beyond 1 k (c .before .before .before .pre .0) (r .0 .0 .0 .0 .0 .0 .0 .0 .0 .0 .0 .1) in
+    let b2 = beyond 2 k b1 (r .0 .0 .0 .0 .0 .0 .0 .0 .0 .0 .1) in
+    let b3 = beyond 3 k b2 (r .0 .0 .0 .0 .0 .0 .0 .0 .0 .1) in
+    let b4 = beyond 4 k b3 (r .0 .0 .0 .0 .0 .0 .0 .0 .1) in
+    let b5 = beyond 5 k b4 (r .0 .0 .0 .0 .0 .0 .0 .1) in
+    let b6 = beyond 6 k b5 (r .0 .0 .0 .0 .0 .0 .1) in
+    let b7 = beyond 7 k b6 (r .0 .0 .0 .0 .0 .1) in
+    let b8 = beyond 8 k b7 (r .0 .0 .0 .0 .1) in
+    let b9 = beyond 9 k b8 (r .0 .0 .0 .1) in
+    let b10 = beyond 10 k b9 (r .0 .0 .1) in
+    let b11 = beyond 11 k b10 (r .0 .1) in
+    let b12 = beyond 12 k b11 (r .1) in
+    rw (le-antisymm (c .before .before .before .pre .1) b12, c .byte-at10 .ensures)
+
+pub step-of-spec : {M : Type 1} → statement M
+step-of-spec =
+    tie.close
+    (tie.spec
+    byte-at-requires
+    range-at-requires
+    range-at-requires-2
+    byte-at-requires-2
+    range-at-requires-3
+    byte-at-requires-3
+    byte-at-requires-4
+    byte-at-requires-5
+    byte-at-requires-6
+    word32-requires
+    word32-requires-2
+    word32-requires-3
+    word32-requires-4
+    word32-requires-5
+    byte-at-requires-7
+    byte-at-requires-8
+    byte-at-requires-9
+    byte-at-requires-10
+    returns
+    returns-2
+    returns-3
+    returns-4
+    returns-5
+    returns-6
+    returns-7
+    returns-8
+    returns-9
+    returns-10
+    returns-11
+    returns-12
+    returns-13)

@@ -1,0 +1,115 @@
+-- The document's cases, of steps, records and sessions. Each is a row of one list, and one theorem checks them all.
+-- Assumes nothing.
+use mathlib.Core.Path.{_≡_, refl}
+use mathlib.Core.List.{List, [], _∷_, _++_, map}
+use Prim.Native.Nat.{ℕ}
+use Rattle.store.specs.Model.{unbroken}
+use Rattle.store.specs.declared.Reply.{Reply}
+use Rattle.players.specs.declared.Step.{Step}
+use Rattle.players.specs.Replies.{reply, done, issued, cache-read, store-read, rejected, granted, refusal}
+use Rattle.players.specs.Rules.{State, replies, fresh}
+use Rattle.players.specs.Cases.{session as session-steps, cases as step-cases, Case as StepCase}
+use Rattle.session.specs.Layout.{fields-length, record-length, fields, field-bytes, map-of}
+use Rattle.session.specs.Records.{cut-short, unknown-field, unknown-kind, wrong-fields, step-of, tested, decode, numbers, encode-all}
+use Rattle.session.specs.Mark.{mark, begins}
+use Rattle.session.specs.Runs.{at-end, spent, no-mark, run, run-from}
+
+-- what is given: steps from a state; the bytes of a record; a session, with a budget and so many list places
+pub data Given : Type 0 where
+  steps : State → List Step → Given
+  record-bytes : List ℕ → Given
+  session : List ℕ → ℕ → ℕ → Given
+
+-- a row: what is given, and its replies
+pub record Case : Type 0 where
+  pub given : Given
+  pub expected : List Reply
+
+abbrev case : Given → List Reply → Case
+case g rs = record { given = g; expected = rs }
+
+-- the replies to steps; the number of a record, as a refusal; the replies of a run from the fresh state, and last its report
+abbrev pub found : Given → List Reply
+found (steps s xs) = replies s xs
+found (record-bytes s) = refusal (numbers (decode s) .code) ∷ []
+found (session s budget places) =
+    let r = run fresh s budget places in
+    r .replies ++ (reply (r .report .why) (r .report .records) (r .report .place) ∷ [])
+
+-- ---- sessions
+
+-- the document's session
+abbrev pub worked-session : List ℕ
+worked-session =
+    0x52 ∷ 0x53 ∷ 0x4C ∷ 0x31
+    ∷ 0x0F ∷ 0x01 ∷ 0x00 ∷ 0x28 ∷ 0x3C ∷ 0x00
+    ∷ 0x0F ∷ 0x03 ∷ 0x00 ∷ 0x28 ∷ 0x3C ∷ 0x00
+    ∷ 0x21 ∷ 0x06 ∷ 0x02 ∷ 0x00 ∷ 0x00 ∷ 0x00
+    ∷ 0x21 ∷ 0x07 ∷ 0x02 ∷ 0x00 ∷ 0x00 ∷ 0x00
+    ∷ 0x17 ∷ 0x05 ∷ 0x00 ∷ 0x2D ∷ 0x07 ∷ 0x00 ∷ 0x00 ∷ 0x00
+    ∷ 0x0F ∷ 0x01 ∷ 0x01 ∷ 0x28 ∷ 0x32 ∷ 0x00
+    ∷ 0x0F ∷ 0x03 ∷ 0x01 ∷ 0x28 ∷ 0x32 ∷ 0x00
+    ∷ 0x21 ∷ 0x06 ∷ 0x05 ∷ 0x00 ∷ 0x00 ∷ 0x00
+    ∷ 0x21 ∷ 0x07 ∷ 0x05 ∷ 0x00 ∷ 0x00 ∷ 0x00
+    ∷ 0x07 ∷ 0x04 ∷ 0x01 ∷ 0x2D
+    ∷ 0x21 ∷ 0x06 ∷ 0x06 ∷ 0x00 ∷ 0x00 ∷ 0x00
+    ∷ 0x21 ∷ 0x07 ∷ 0x06 ∷ 0x00 ∷ 0x00 ∷ 0x00
+    ∷ 0x21 ∷ 0x06 ∷ 0x03 ∷ 0x00 ∷ 0x00 ∷ 0x00
+    ∷ 0x07 ∷ 0x04 ∷ 0x01 ∷ 0x2D
+    ∷ 0x21 ∷ 0x07 ∷ 0x03 ∷ 0x00 ∷ 0x00 ∷ 0x00 ∷ []
+
+-- a session of one good record, a bad one and a good one
+abbrev bad-middle : List ℕ
+bad-middle = mark ++ (0x07 ∷ 0x04 ∷ 0x00 ∷ 0x09 ∷ 0x03 ∷ 0x04 ∷ 0x00 ∷ 0x07 ∷ 0x04 ∷ 0x00 ∷ 0x09 ∷ [])
+
+-- a session whose first step is refused, and its second is not
+abbrev refused-first : List ℕ
+refused-first = mark ++ (0x03 ∷ 0x0D ∷ 0x08 ∷ 0x07 ∷ 0x04 ∷ 0x00 ∷ 0x09 ∷ [])
+
+-- ---- the rows
+
+-- "none 24; 40: 25; 02 00: 27; 01 C8: 26; 03 04 00: 27; 07 04 00: 24"
+abbrev record-cases : List Case
+record-cases =
+    case (record-bytes []) (refusal cut-short ∷ [])
+    ∷ case (record-bytes (0x40 ∷ [])) (refusal unknown-field ∷ [])
+    ∷ case (record-bytes (0x02 ∷ 0x00 ∷ [])) (refusal wrong-fields ∷ [])
+    ∷ case (record-bytes (0x01 ∷ 0xC8 ∷ [])) (refusal unknown-kind ∷ [])
+    ∷ case (record-bytes (0x03 ∷ 0x04 ∷ 0x00 ∷ [])) (refusal wrong-fields ∷ [])
+    ∷ case (record-bytes (0x07 ∷ 0x04 ∷ 0x00 ∷ [])) (refusal cut-short ∷ [])
+    ∷ []
+
+abbrev session-cases : List Case
+session-cases =
+    -- the document's session
+    case (session worked-session 16384 5460)
+    (issued 1 ∷ issued 2 ∷ done ∷ granted 2 ∷ issued 3 ∷ issued 4 ∷ issued 5 ∷ done ∷ granted 5 ∷ issued 6 ∷ done ∷ store-read 0 0 ∷ done ∷ cache-read 0 0 ∷ rejected 3 ∷ reply at-end 15 92 ∷ [])
+    -- no byte; the mark alone; another mark
+    ∷ case (session [] 16384 5460) (reply no-mark 0 0 ∷ [])
+    ∷ case (session mark 16384 5460) (reply at-end 0 4 ∷ [])
+    ∷ case (session (0x52 ∷ 0x53 ∷ 0x4C ∷ 0x32 ∷ []) 16384 5460) (reply no-mark 0 0 ∷ [])
+    -- budget 0: at the end all the same 0, else 9
+    ∷ case (session mark 0 5460) (reply at-end 0 4 ∷ [])
+    ∷ case (session worked-session 0 5460) (reply spent 0 4 ∷ [])
+    -- two list places
+    ∷ case (session worked-session 16384 2) (issued 1 ∷ issued 2 ∷ reply spent 2 16 ∷ [])
+    -- a bad record in the middle; 9 comes before its number
+    ∷ case (session bad-middle 16384 5460) (issued 1 ∷ reply wrong-fields 1 8 ∷ [])
+    ∷ case (session bad-middle 1 5460) (issued 1 ∷ reply spent 1 8 ∷ [])
+    -- a refused step is taken, and the run goes on
+    ∷ case (session refused-first 16384 5460) (refusal 28 ∷ issued 1 ∷ reply at-end 2 11 ∷ [])
+    ∷ []
+
+-- all of them: steps, records, sessions
+abbrev pub cases : List Case
+cases = map (λ (c : StepCase). case (steps (c .from) (c .steps)) (c .expected)) step-cases ++ (record-cases ++ session-cases)
+
+-- each case is found as expected
+pub theorem : map (λ (c : Case). found (c .given)) cases ≡ map (λ (c : Case). c .expected) cases
+unfolding unbroken fields-length record-length fields map-of step-of tested begins run-from
+theorem = refl
+
+-- the document's session is what is written for its steps
+pub written : mark ++ encode-all session-steps ≡ worked-session
+unfolding field-bytes map-of
+written = refl
