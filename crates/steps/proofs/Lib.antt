@@ -1,2 +1,10 @@
 -- Laws that the functions' proofs cite.
 pub mod WordLaws
+pub mod RunLaws
+pub mod TableLaws
+pub mod StateLaws
+pub mod DropLaws
+pub mod MoveLaws
+pub mod OwnershipLaws
+pub mod IssuingLaws
+pub mod LeavingLaws

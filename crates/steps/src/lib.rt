@@ -1,6 +1,8 @@
 // The steps, on the store's table and the players'.
 mod cells;
-mod players_steps;
+mod issuing;
+mod leaving;
+mod ownership;
 
 use store::Reply;
 ghost use mathlib.Core.Path.{_≡_};
