@@ -14,11 +14,11 @@ use borrow.Author.Tests.{eq-eqb, ne-eqb, lt-ltb, leb-true, leb-false, eqb-true}
 use Rattle.requests.specs.declared.Request.{Request}
 use Rattle.requests.specs.declared.Found.the-variants.{At, Nowhere}
 use Rattle.requests.specs.Model.{places, by, serial-is, writing, using-entry, any, keep, find, drop-request, change-request, mark-overlapped, mark-abandoned, mark-delivered}
-use Rattle.requests.specs.Region.{wordsOf, placed, regionOf}
+use Rattle.requests.specs.Region.{requestOf, requestsFrom, whole, requestsOf, wordsOf, placed, regionOf}
 use Rattle.requests.specs.Calls.{found-from, found, scanned, full, over, with-request, with-abandoned, with-delivered, closed, without, overlapped-from, crossing, crossed, remains, give-up, remaining, restarted}
-use Rattle.requests.proofs.Basics.{decide}
+use Rattle.requests.proofs.Basics.{decide, cond-elim}
 use Rattle.requests.proofs.Rising.{Each, In, here, there, fewer-kept}
-use Rattle.requests.proofs.RequestRules.{request-fits}
+use Rattle.requests.proofs.RequestRules.{Fits, request-fits}
 use Rattle.requests.proofs.WordLaws.{over-skip, over-front, drop-zeros, set-from, sets-from}
 use Rattle.requests.proofs.Placed.{Requests, request-back, length-placed, requests-region}
 
@@ -100,6 +100,30 @@ find-nowhere : {A : Type 0} (f : Request → Bool) (n i : ℕ) (rs : List Reques
 unfolding found-from
 find-nowhere f n i [] x go e = refl
 find-nowhere f n i (r ∷ rs) x go e = nowhere-cond n i f r rs x go (serial-is n r) e (λ p. find-nowhere f n (i + 1) rs x go p)
+
+-- what is found fits its fields, in any region
+abbrev AllFit : List Request → Type 0
+AllFit [] = Unit {0}
+AllFit (r ∷ rs) = Fits r × AllFit rs
+
+request-fits-any : (w : List ℕ) → Fits (requestOf w)
+unfolding requestOf
+request-fits-any w = record { player = omega arith; kind = omega arith; low = omega arith; high = omega arith }
+
+all-fit : (m : ℕ) (w : List ℕ) → AllFit (requestsFrom m w)
+unfolding requestsFrom
+all-fit zero w = tt
+all-fit (suc m) w =
+    cond-elim AllFit (eqb (getD w 0 0) 0) [] (requestOf w ∷ requestsFrom m (drop 12 w)) (λ _. tt) (λ _. (request-fits-any w, all-fit m (drop 12 w)))
+
+stands-fit : {r : Request} {k : ℕ} {rs : List Request} → AllFit rs → Stands r k rs → Fits r
+stands-fit f first = f .0
+stands-fit f (later s) = stands-fit (f .1) s
+
+pub found-fits : (n k : ℕ) (r : Request) (w : List ℕ) → At k r ≡ found n w → Fits r
+unfolding requestsOf
+found-fits n k r w e =
+    stands-fit (cond-elim AllFit (whole w) (requestsFrom places w) [] (λ _. all-fit places w) (λ _. tt)) (lies n 0 k r (requestsOf w) e .stands)
 
 -- ---- words of places
 
@@ -247,10 +271,14 @@ remaining-placed i n p (suc m) (r ∷ rs) q l =
 
 -- ---- the calls
 
-module _ (n : ℕ) (rs : List Request) (few : length rs ≤ places) (q : Requests n 0 rs) where
-  is-whole : eqb (length (regionOf rs)) 768 ≡ true
-  is-whole = eq-eqb (length (regionOf rs)) 768 (length-placed places rs)
+is-whole : (rs : List Request) → eqb (length (regionOf rs)) 768 ≡ true
+is-whole rs = eq-eqb (length (regionOf rs)) 768 (length-placed places rs)
 
+pub append-region : (rs : List Request) (r : Request) → length rs < places → with-request (length rs) r (regionOf rs) ≡ regionOf (rs ++ (r ∷ []))
+unfolding with-request
+append-region rs r h = rw (is-whole rs) (append-placed places rs r h)
+
+module _ (n : ℕ) (rs : List Request) (few : length rs ≤ places) (q : Requests n 0 rs) where
   pub scanned-region : (f : Request → Bool) → scanned f (regionOf rs) ≡ record { used = length rs; hit = any f rs }
   scanned-region f = rw (requests-region n rs few q)
 
@@ -259,10 +287,10 @@ module _ (n : ℕ) (rs : List Request) (few : length rs ≤ places) (q : Request
       ⊎-elim
       (λ h.
       let l : places ≤ length rs = leb-true places (length rs) h in
-      rw (is-whole, ne-eqb (getD (regionOf rs) 756 0) 0 (used-word _ places 63 0 rs q (omega arith) few), h))
+      rw (is-whole rs, ne-eqb (getD (regionOf rs) 756 0) 0 (used-word _ places 63 0 rs q (omega arith) few), h))
       (λ h.
       let l : length rs < places = leb-false places (length rs) h in
-      rw (is-whole, eq-eqb (getD (regionOf rs) 756 0) 0 (unused-word places 63 rs (omega arith) (omega arith)), h))
+      rw (is-whole rs, eq-eqb (getD (regionOf rs) 756 0) 0 (unused-word places 63 rs (omega arith) (omega arith)), h))
       (decide (leb places (length rs)))
 
   -- nothing is found
@@ -288,26 +316,22 @@ module _ (n : ℕ) (rs : List Request) (few : length rs ≤ places) (q : Request
     unfolding without
     without-region =
         let h : k < places = let b = stands-below s in omega arith in
-        rw (is-whole, lt-ltb k places h) (closed-placed _ places 0 q few s)
+        rw (is-whole rs, lt-ltb k places h) (closed-placed _ places 0 q few s)
 
     pub abandoned-region : with-abandoned k (regionOf rs) ≡ regionOf (change-request (r .serial) mark-abandoned rs)
     unfolding with-abandoned
     abandoned-region =
-        rw is-whole (set-from (regionOf rs) (k * 12) 9 1 ∙ change-placed _ places mark-abandoned (λ w. set w 9 1) (λ x. refl) 0 q few s)
+        rw (is-whole rs) (set-from (regionOf rs) (k * 12) 9 1 ∙ change-placed _ places mark-abandoned (λ w. set w 9 1) (λ x. refl) 0 q few s)
 
     pub delivered-region : (a b : ℕ) → with-delivered k a b (regionOf rs) ≡ regionOf (change-request (r .serial) (mark-delivered a b) rs)
     unfolding with-delivered
     delivered-region a b =
-        rw is-whole
+        rw (is-whole rs)
         (sets-from (regionOf rs) (k * 12) 8 1 10 a 11 b ∙ change-placed _ places (mark-delivered a b) (λ w. set (set (set w 8 1) 10 a) 11 b) (λ x. refl) 0 q few s)
-
-  pub append-region : (r : Request) → length rs < places → with-request (length rs) r (regionOf rs) ≡ regionOf (rs ++ (r ∷ []))
-  unfolding with-request
-  append-region r h = rw is-whole (append-placed places rs r h)
 
   pub crossed-region : (i e : ℕ) → crossed i e (regionOf rs) ≡ crossing (record { used = length rs; hit = any (writing i e) rs }) (regionOf (map (λ r. cond (using-entry i e r) (mark-overlapped r) r) rs))
   unfolding crossed
-  crossed-region i e = rw (requests-region n rs few q, is-whole, overlapped-placed (using-entry i e) n 0 places rs q few)
+  crossed-region i e = rw (requests-region n rs few q, is-whole rs, overlapped-placed (using-entry i e) n 0 places rs q few)
 
   pub restarted-region : (i : ℕ) → restarted i (regionOf rs) ≡ regionOf (given-up i rs)
   unfolding restarted
@@ -315,5 +339,5 @@ module _ (n : ℕ) (rs : List Request) (few : length rs ≤ places) (q : Request
       let l : List Request = given-up i rs in
       let h : length l ≤ length rs = omega (arith, length-map (keep (remains i) rs) (give-up i), fewer-kept (remains i) rs) in
       let e : length rs * 12 - length l * 12 + (places - length rs) * 12 ≡ (places - length l) * 12 = omega arith in
-      rw (requests-region n rs few q, is-whole, remaining-placed i n 0 places rs q few, length-flat l, unused-words places rs few, placed-flat places l (omega arith))
+      rw (requests-region n rs few q, is-whole rs, remaining-placed i n 0 places rs q few, length-flat l, unused-words places rs few, placed-flat places l (omega arith))
       (ap (λ (x : List ℕ). flat l ++ x) (replicate-append-replicate {A = ℕ} (length rs * 12 - length l * 12) ((places - length rs) * 12) 0 ∙ ap (λ (k : ℕ). replicate {A = ℕ} k 0) e))

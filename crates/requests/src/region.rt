@@ -16,10 +16,10 @@ ghost use Rattle.requests.specs.Calls.{found, scanned, full, with-reques
 pub fn holds(region: &[u32], last: u32) -> bool
     ensures { λ r. ⌜ r ≡ valid last (now (region .entry)) ⌝ }
 {
-    if region.len() != 768 {
-        return false;
+    if region.len() == 768 {
+        return rules::places_hold(region, last);
     }
-    rules::places_hold(region, last)
+    false
 }
 
 // ---- what is found
@@ -170,18 +170,24 @@ pub fn cross(region: &mut [u32], player: u8, entry: u8) -> Scan
             hit: false,
         };
     }
-    let mut hit = false;
+    let mut writes = false;
     let mut k = 0;
     while k < 64 {
         if region[k * 12] == 0 {
-            return Scan { used: k, hit };
+            return Scan {
+                used: k,
+                hit: writes,
+            };
         }
         let r = places::request_at(region, k);
-        hit = tests::either(hit, tests::is_writing(r, player, entry));
+        writes = tests::either(writes, tests::is_writing(r, player, entry));
         places::overlap(region, k, r, player, entry);
         k += 1;
     }
-    Scan { used: k, hit }
+    Scan {
+        used: k,
+        hit: writes,
+    }
 }
 
 // Gives up the player's pending requests: those delivered leave, the others are abandoned.

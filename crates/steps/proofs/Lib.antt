@@ -1,6 +1,12 @@
 -- Laws that the functions' proofs cite.
 pub mod WordLaws
 pub mod RunLaws
-pub mod OwnerLaws
+pub mod TableLaws
+pub mod StateLaws
+pub mod DropLaws
+pub mod MoveLaws
+pub mod OwnershipLaws
+pub mod IssuingLaws
+pub mod LeavingLaws
 pub mod StoreStepLaws
 pub mod JoinLaws

@@ -1,10 +1,9 @@
 -- The words that the steps' code reads and writes, a case for each way that it goes.
 -- Assumes nothing.
-use mathlib.Core.Path.{_≡_, refl, sym, ap, _∙_}
-use mathlib.Core.Bool.{Bool, true, false, cond}
+use mathlib.Core.Path.{_≡_, sym, ap, _∙_}
+use mathlib.Core.Bool.{true, false}
 use mathlib.Core.List.{List}
 use Prim.Native.Nat.{ℕ, suc, _+_, _-_, _*_, _≤_, _<_}
-use native.Mathlib.Nat.{add-zero, add-suc}
 use native.Mathlib.Numerals.{add-one}
 use native.Mathlib.Omega.{arith}
 use lib.Dec.{eqb}
@@ -12,7 +11,7 @@ use lib.ListN.{length, getD, take, drop, set, replicate, length-drop, length-rep
 use lib.Seq.{length-take-le}
 use borrow.Author.Tests.{eq-eqb, ne-eqb, lt-ltb, le-ltb}
 use borrow.Rule.Slice.PartMut.{putMid, same-len-mid}
-use Rattle.steps.specs.Calls.{live-guard, hit, all-are, emptied, filled, cleared, dropped}
+use Rattle.steps.specs.Calls.{live-guard, hit, all-are, caching, filled, cleared, dropped}
 
 -- ---- what is read
 
@@ -115,7 +114,7 @@ module _ (g : ℕ) (t : List ℕ) where
   unfolding dropped
   drop-not i h = rw (ne-eqb (getD t (513 + i) 0) g h)
 
-  pub drop-one : (i : ℕ) (t′ : List ℕ) → getD t (513 + i) 0 ≡ g → t′ ≡ emptied i (set t (513 + i) 0) → t′ ≡ dropped g i 1 t
+  pub drop-one : (i : ℕ) (t′ : List ℕ) → getD t (513 + i) 0 ≡ g → t′ ≡ caching i 0 0 0 (set t (513 + i) 0) → t′ ≡ dropped g i 1 t
   unfolding dropped
   drop-one i t′ h e = rw (eq-eqb (getD t (513 + i) 0) g h) e
 

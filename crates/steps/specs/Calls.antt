@@ -7,15 +7,22 @@ use Prim.Native.Nat.{ℕ, zero, suc, _+_, _-_, _*_}
 use lib.Dec.{T, ltb, eqb}
 use lib.ListN.{length, getD, take, drop, set, replicate}
 use borrow.Rule.Slice.PartMut.{putMid}
+use Rattle.store.specs.Model.{bad-range}
+use Rattle.store.specs.declared.Range.{Range}
 use Rattle.store.specs.declared.Reply.{Reply}
 use Rattle.requests.specs.declared.Request.{Request}
-use Rattle.requests.specs.Calls.{with-request}
-use Rattle.players.specs.Rules.{State, Result}
+use Rattle.requests.specs.Calls.{with-request, with-abandoned, without}
+use Rattle.players.specs.Replies.{out-of-range}
+use Rattle.players.specs.Rules.{State, Result, check, need-serial, set-owner}
 use Rattle.players.specs.Table.{stateOf, tableOf, valid}
 
 -- a step that leaves the store's table alone: what it does to a players' table that keeps the rules beside some store's
 pub record Moves (f : State → Result) (t : List ℕ) (r : Reply) (t′ : List ℕ) : Type 0 where
   pub moved : (st : List ℕ) → length st ≡ 1280 → T (valid st t) → (r ≡ f (stateOf st t) .reply) × (t′ ≡ tableOf (f (stateOf st t) .state))
+
+-- steps 1 and 2, once the player is known to be one, or nobody
+abbrev pub own : ℕ → Range → State → Result
+own p g s = check s (bad-range g) out-of-range (need-serial s (set-owner s p g))
 
 -- ---- what is read of a table
 
@@ -44,9 +51,15 @@ added k r t =
     let u = set t 0 (r .serial) in
     putMid 8705 768 u (with-request k r (take 768 (drop 8705 u)))
 
--- cell i of the cached values emptied
-unfoldable pub emptied : ℕ → List ℕ → List ℕ
-emptied i t = set (set (set t (2561 + i) 0) (4609 + i) 0) (6657 + i) 0
+-- the request of place k leaves if it is delivered, and is abandoned if not
+unfoldable pub giving-up : ℕ → Bool → List ℕ → List ℕ
+giving-up k delivered t =
+    let w = take 768 (drop 8705 t) in
+    putMid 8705 768 t (cond delivered (without k w) (with-abandoned k w))
+
+-- what is cached in cell i
+unfoldable pub caching : ℕ → ℕ → ℕ → ℕ → List ℕ → List ℕ
+caching i guard version value t = set (set (set t (2561 + i) guard) (4609 + i) version) (6657 + i) value
 
 -- the words from b + lo up to b + hi become v
 abbrev pub filled : ℕ → ℕ → ℕ → ℕ → List ℕ → List ℕ
@@ -59,4 +72,4 @@ cleared lo hi t = filled 6657 lo hi 0 (filled 4609 lo hi 0 (filled 2561 lo hi 0 
 -- of n cells from cell i on, those whose guard is g cleared
 unfoldable pub dropped : ℕ → ℕ → ℕ → List ℕ → List ℕ
 dropped g i zero t = t
-dropped g i (suc n) t = dropped g (suc i) n (cond (eqb (getD t (513 + i) 0) g) (emptied i (set t (513 + i) 0)) t)
+dropped g i (suc n) t = dropped g (suc i) n (cond (eqb (getD t (513 + i) 0) g) (caching i 0 0 0 (set t (513 + i) 0)) t)

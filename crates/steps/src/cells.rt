@@ -3,7 +3,7 @@ use store::words;
 ghost use mathlib.Core.Path.{_≡_};
 ghost use Prim.Native.Nat.{_+_, _-_, _*_, _≤_, _<_};
 ghost use lib.ListN.{length};
-ghost use Rattle.steps.specs.Calls.{live-guard, hit, all-are, emptied, cleared, dropped};
+ghost use Rattle.steps.specs.Calls.{live-guard, hit, all-are, caching, cleared, dropped};
 
 // The guard that the player holds for the entry if it is live, else 0.
 pub(crate) fn live_guard(players: &[u32], player: u8, entry: u8) -> u32
@@ -51,14 +51,14 @@ pub(crate) fn all_are(players: &[u32], low: usize, high: usize, v: u32) -> bool
     true
 }
 
-// Empties cell `i` of the cached values.
-pub(crate) fn empty(players: &mut [u32], i: usize)
+// Caches a value in cell `i`, or empties it.
+pub(crate) fn cache(players: &mut [u32], i: usize, guard: u32, version: u32, value: u32)
     requires { ⌜ (length (now players) ≡ 9473) × (i < 2048) ⌝ }
-    ensures { λ _. ⌜ now (players .exit) ≡ emptied i (now (players .entry)) ⌝ }
+    ensures { λ _. ⌜ now (players .exit) ≡ caching i guard version value (now (players .entry)) ⌝ }
 {
-    players[2561 + i] = 0;
-    players[4609 + i] = 0;
-    players[6657 + i] = 0;
+    players[2561 + i] = guard;
+    players[4609 + i] = version;
+    players[6657 + i] = value;
 }
 
 // Clears the guards of cells `low` up to `high`, each with what is cached under it.
@@ -81,7 +81,7 @@ fn drop_at(players: &mut [u32], i: usize, guard: u32)
         return;
     }
     players[513 + i] = 0;
-    empty(players, i);
+    cache(players, i, 0, 0, 0);
 }
 
 // Clears each guard of the player that is `guard`.

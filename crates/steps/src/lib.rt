@@ -1,7 +1,8 @@
 // The steps, on the store's table and the players'.
 mod cells;
-mod owner_steps;
-mod players_steps;
+mod issuing;
+mod leaving;
+mod ownership;
 mod store_steps;
 
 use store::Reply;

@@ -13,10 +13,10 @@ use Rattle.requests.proofs.region.cross.Statement.{statement}
 use Rattle.requests.proofs.region.cross.Tie as tie
 
 abbrev Inv-loop : tie.InvT-loop
-Inv-loop region₀ player entry hit₀ k₀ region hit k = (k ≤ 64) × (length region ≡ 768) × (scan-at (writing player entry) region k hit ≡ scanned (writing player entry) region₀) × (passed (using-entry player entry) k region ≡ overlapped-from (using-entry player entry) 64 region₀)
+Inv-loop region₀ player entry writes₀ k₀ region writes k = (k ≤ 64) × (length region ≡ 768) × (scan-at (writing player entry) region k writes ≡ scanned (writing player entry) region₀) × (passed (using-entry player entry) k region ≡ overlapped-from (using-entry player entry) 64 region₀)
 
 abbrev μ-loop : tie.MeasureT-loop
-μ-loop region₀ player entry hit₀ k₀ region hit k = 64 - k
+μ-loop region₀ player entry writes₀ k₀ region writes k = 64 - k
 
 returns : tie.Need-returns Inv-loop μ-loop
 returns c =
@@ -43,7 +43,7 @@ same-length c = c .before .before .before .loop .inv .1 ∙ sym (c .before .befo
 returns-2 : tie.Need-returns-2 Inv-loop μ-loop
 returns-2 c =
     let a = c .before .before .before .before .before .before .args in
-    cross-done (a .player) (a .entry) (a .region .now) (c .before .before .before .before .if1 .left) _ _ (scan-end (writing (a .player) (a .entry)) (c .before .before .before .loop .region) (c .before .before .before .loop .k) (c .before .before .before .loop .hit) (from-unused (c .before .before .before .loop .region) (c .before .before .before .loop .k) (c .before .before .loop-test .taken) (c .if2 .taken)) ∙ c .before .before .before .loop .inv .2) (sym (passed-unused (using-entry (a .player) (a .entry)) (c .before .before .before .loop .region) (c .before .before .before .loop .k) (c .before .before .loop-test .taken) (c .if2 .taken)) ∙ c .before .before .before .loop .inv .3)
+    cross-done (a .player) (a .entry) (a .region .now) (c .before .before .before .before .if1 .left) _ _ (scan-end (writing (a .player) (a .entry)) (c .before .before .before .loop .region) (c .before .before .before .loop .k) (c .before .before .before .loop .writes) (from-unused (c .before .before .before .loop .region) (c .before .before .before .loop .k) (c .before .before .loop-test .taken) (c .if2 .taken)) ∙ c .before .before .before .loop .inv .2) (sym (passed-unused (using-entry (a .player) (a .entry)) (c .before .before .before .loop .region) (c .before .before .before .loop .k) (c .before .before .loop-test .taken) (c .if2 .taken)) ∙ c .before .before .before .loop .inv .3)
 
 request-at-requires : tie.Need-request-at-requires Inv-loop μ-loop
 request-at-requires c κs = omega arith
@@ -69,7 +69,7 @@ loop-again c =
       omega arith,
       c .before .before .overlap .kept .0 ∙ c .before .before .before .before .before .before .before .before .before .before .before .loop .inv .1,
       sym (same-scan (writing (a .player) (a .entry)) (c .before .before .before .before .before .before .before .before .before .before .before .loop .region) _ (c .before .before .before .before .before .before .before .before .before .before .before .loop .k + 1) (c .before .before .before .before .either .result) (after-place (using-entry (a .player) (a .entry)) (c .before .before .before .before .before .before .before .before .before .before .before .loop .region) (c .before .before .before .before .before .before .before .before .before .before .before .loop .k) (c .before .before .before .before .before .before .before .before .before .before .loop-test .taken) _ _ (ap (using-entry (a .player) (a .entry)) (sym (c .before .before .before .before .before .before .request-at .ensures))) (c .before .before .overlap .ensures)))
-          ∙ sym (scan-on (writing (a .player) (a .entry)) (c .before .before .before .before .before .before .before .before .before .before .before .loop .region) (c .before .before .before .before .before .before .before .before .before .before .before .loop .k) (c .before .before .before .before .before .before .before .before .before .before .before .loop .hit) (c .before .before .before .before .before .before .before .before .before .before .loop-test .taken) (c .before .before .before .before .before .before .before .before .if2 .left) _ (c .before .before .before .before .before .before .request-at .ensures) _ (c .before .before .before .before .either .ensures ∙ ap (λ (b : Bool). c .before .before .before .before .before .before .before .before .before .before .before .loop .hit || b) (c .before .before .before .before .before .is-writing .ensures)))
+          ∙ sym (scan-on (writing (a .player) (a .entry)) (c .before .before .before .before .before .before .before .before .before .before .before .loop .region) (c .before .before .before .before .before .before .before .before .before .before .before .loop .k) (c .before .before .before .before .before .before .before .before .before .before .before .loop .writes) (c .before .before .before .before .before .before .before .before .before .before .loop-test .taken) (c .before .before .before .before .before .before .before .before .if2 .left) _ (c .before .before .before .before .before .before .request-at .ensures) _ (c .before .before .before .before .either .ensures ∙ ap (λ (b : Bool). c .before .before .before .before .before .before .before .before .before .before .before .loop .writes || b) (c .before .before .before .before .before .is-writing .ensures)))
           ∙ c .before .before .before .before .before .before .before .before .before .before .before .loop .inv .2,
       sym (passed-on (using-entry (a .player) (a .entry)) (c .before .before .before .before .before .before .before .before .before .before .before .loop .region) (c .before .before .before .before .before .before .before .before .before .before .before .loop .k) (c .before .before .before .before .before .before .before .before .before .before .loop-test .taken) _ _ (ap (using-entry (a .player) (a .entry)) (sym (c .before .before .before .before .before .before .request-at .ensures))) (c .before .before .overlap .ensures) (c .before .before .before .before .before .before .before .before .if2 .left)) ∙ c .before .before .before .before .before .before .before .before .before .before .before .loop .inv .3,
     )
@@ -80,7 +80,7 @@ same-length-2 c = c .before .loop .inv .1 ∙ sym (c .before .before .if1 .left)
 returns-3 : tie.Need-returns-3 Inv-loop μ-loop
 returns-3 c =
     let a = c .before .before .before .before .args in
-    cross-done (a .player) (a .entry) (a .region .now) (c .before .before .if1 .left) _ _ (scan-end (writing (a .player) (a .entry)) (c .before .loop .region) (c .before .loop .k) (c .before .loop .hit) (from-end (c .before .loop .region) (c .before .loop .k) (c .loop-test .left)) ∙ c .before .loop .inv .2) (sym (passed-end (using-entry (a .player) (a .entry)) (c .before .loop .region) (c .before .loop .k) (c .loop-test .left)) ∙ c .before .loop .inv .3)
+    cross-done (a .player) (a .entry) (a .region .now) (c .before .before .if1 .left) _ _ (scan-end (writing (a .player) (a .entry)) (c .before .loop .region) (c .before .loop .k) (c .before .loop .writes) (from-end (c .before .loop .region) (c .before .loop .k) (c .loop-test .left)) ∙ c .before .loop .inv .2) (sym (passed-end (using-entry (a .player) (a .entry)) (c .before .loop .region) (c .before .loop .k) (c .loop-test .left)) ∙ c .before .loop .inv .3)
 
 pub cross-spec : {M : Type 1} → statement M
 cross-spec =

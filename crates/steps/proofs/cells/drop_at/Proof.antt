@@ -30,16 +30,16 @@ mul-players c = search needs
 slice-write-players : tie.Need-slice-write-players
 slice-write-players c = search needs
 
-empty-requires : tie.Need-empty-requires
-empty-requires c κs = search needs
+cache-requires : tie.Need-cache-requires
+cache-requires c κs = search needs
 
 same-length : tie.Need-same-length
-same-length c = c .before .before .empty .kept .0 ∙ simp length-set
+same-length c = c .before .before .cache .kept .0 ∙ simp length-set
 
 returns-2 : tie.Need-returns-2
 returns-2 c =
     let a = c .before .before .before .before .before .before .before .args in
-    drop-one (a .guard) (a .players .now) (a .i) _ (c .before .before .before .before .if1 .left) (c .before .before .empty .ensures)
+    drop-one (a .guard) (a .players .now) (a .i) _ (c .before .before .before .before .if1 .left) (c .before .before .cache .ensures)
 
 pub drop-at-spec : {M : Type 1} → statement M
 drop-at-spec =
@@ -52,6 +52,6 @@ drop-at-spec =
     add-players
     mul-players
     slice-write-players
-    empty-requires
+    cache-requires
     same-length
     returns-2)

@@ -1,12 +1,12 @@
--- `steps::cells::empty` meets its contract.
+-- `steps::cells::cache` meets its contract.
 -- Assumes nothing.
 use mathlib.Core.Path.{refl}
 use native.Mathlib.Omega.{arith}
 use lib.ListN.{length-set}
 use borrow.Author.Needs.{needs}
-use Rattle.steps.specs.Calls.{emptied}
-use Rattle.steps.proofs.cells.empty.Statement.{statement}
-use Rattle.steps.proofs.cells.empty.Tie as tie
+use Rattle.steps.specs.Calls.{caching}
+use Rattle.steps.proofs.cells.cache.Statement.{statement}
+use Rattle.steps.proofs.cells.cache.Tie as tie
 
 add-players : tie.Need-add-players
 add-players c = search needs
@@ -39,11 +39,11 @@ same-length : tie.Need-same-length
 same-length c = search needs
 
 returns : tie.Need-returns
-unfolding emptied
+unfolding caching
 returns c = refl
 
-pub empty-spec : {M : Type 1} → statement M
-empty-spec =
+pub cache-spec : {M : Type 1} → statement M
+cache-spec =
     tie.close
     (tie.spec
     add-players

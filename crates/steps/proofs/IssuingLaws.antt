@@ -1,0 +1,232 @@
+-- Steps 3, 4 and 5: what they do to a state, case by case, and what their code does to a table.
+-- Assumes nothing.
+use mathlib.Core.Path.{_≡_, refl, sym, ap, _∙_}
+use mathlib.Core.Logic.{⊎-elim}
+use mathlib.Core.Bool.{Bool, true, false, cond}
+use mathlib.Core.List.{List, map}
+use Prim.Native.Nat.{ℕ, zero, suc, _+_, _-_, _*_, _≤_, _<_}
+use native.Mathlib.Nat.{add-suc}
+use native.Mathlib.Omega.{arith}
+use lib.Dec.{leb, eqb}
+use lib.ListN.{length, getD, take, drop, length-map}
+use borrow.Author.Tests.{eq-eqb, ne-eqb, le-leb, lt-leb, lt-ltb, le-ltb, leb-false}
+use borrow.Rule.Slice.PartMut.{putMid}
+use Rattle.store.specs.declared.Range.{Range}
+use Rattle.store.specs.declared.Reply.{Reply}
+use Rattle.requests.specs.declared.Request.{Request}
+use Rattle.requests.specs.declared.Scan.{Scan}
+use Rattle.requests.specs.Model.{places, requesting, writing, using-entry, new-request, mark-overlapped, any}
+use Rattle.requests.specs.Region.{regionOf}
+use Rattle.requests.specs.Calls.{scanned, full, Crossing, crossing, crossed}
+use Rattle.requests.proofs.Basics.{decide}
+use Rattle.requests.proofs.RegionLaws.{crossed-region}
+use Rattle.players.specs.declared.Step.the-variants.{RequestGuard, Read, Write}
+use Rattle.players.specs.Replies.{refusal, issued, cache-read}
+use Rattle.players.specs.Rules.{empty, State, Result, with-player, with-requests, every, all-entries, owns, live, cleared as cleared-player, request-guard, cache-hit, read-from-store, write, with-cached, step}
+use Rattle.players.specs.Table.{tableOf}
+use Rattle.players.proofs.Tables.{Ok}
+use Rattle.steps.specs.Calls.{Moves, live-guard, hit, all-are, added, caching, cleared}
+use Rattle.steps.proofs.StateLaws.{part-of, owner-word, version-word, value-word, live-state, hit-state, requests-put, added-state, cached-put, cleared-put}
+use Rattle.steps.proofs.MoveLaws.{moves, stays, refused, last-is, full-is, scan-is}
+
+-- ---- a place and a serial are needed
+
+-- there is room for a request: the region is not full, and a serial is left
+module _ {t : List ℕ} {s : State} (o : Ok s) (y : t ≡ tableOf s) where
+  few-is : full (take 768 (drop 8705 t)) ≡ false → leb places (length (s .requests)) ≡ false
+  few-is f = full-is o y false (sym f)
+
+  spent-is : 4000000 ≤ getD t 0 0 → leb 4000000 (s .last) ≡ true
+  spent-is h = let n = last-is o y in le-leb 4000000 (s .last) (omega arith)
+
+  left-is : getD t 0 0 < 4000000 → leb 4000000 (s .last) ≡ false
+  left-is h = let n = last-is o y in lt-leb 4000000 (s .last) (omega arith)
+
+-- ---- 4 read
+
+module _ (t : List ℕ) (l : length t ≡ 9473) (p e : ℕ) where
+  abbrev f : State → Result
+  f s = step s (Read p e)
+
+  pub read-player : 7 < p → (r : Reply) → r ≡ refusal 28 → Moves f t r t
+  read-player h r er = refused f t l 28 r er (λ s _ _. rw (le-leb 8 p h))
+
+  module _ (hp : p < 8) (he : e < 256) where
+    hit-is : (s : State) → t ≡ tableOf s → (b : Bool) → b ≡ hit t p e → cache-hit s p e ≡ b
+    hit-is s y b eb = sym (eb ∙ ap (λ (u : List ℕ). hit u p e) y ∙ hit-state s p e hp he)
+
+    pub read-hit : true ≡ hit t p e → Moves f t (cache-read (getD t (4609 + (p * 256 + e)) 0) (getD t (6657 + (p * 256 + e)) 0)) t
+    read-hit b =
+        stays f t l _
+        (λ s o y.
+        rw (lt-leb 8 p hp, hit-is s y true b, ap (λ (u : List ℕ). getD u (4609 + (p * 256 + e)) 0) y ∙ version-word s p e hp he, ap (λ (u : List ℕ). getD u (6657 + (p * 256 + e)) 0) y ∙ value-word s p e hp he))
+
+    module _ (b : false ≡ hit t p e) where
+      pub read-full : true ≡ full (take 768 (drop 8705 t)) → (r : Reply) → r ≡ refusal 33 → Moves f t r t
+      read-full h r er = refused f t l 33 r er (λ s o y. rw (lt-leb 8 p hp, hit-is s y false b, full-is o y true h))
+
+      module _ (h : false ≡ full (take 768 (drop 8705 t))) where
+        pub read-spent : 4000000 ≤ getD t 0 0 → (r : Reply) → r ≡ refusal 34 → Moves f t r t
+        read-spent k r er = refused f t l 34 r er (λ s o y. rw (lt-leb 8 p hp, hit-is s y false b, full-is o y false h, spent-is o y k))
+
+        pub read-done : getD t 0 0 < 4000000 → (g : ℕ) → g ≡ live-guard t p e → (x : Scan) → x ≡ scanned (writing p e) (take 768 (drop 8705 t)) → (q : Request) → q ≡ new-request (getD t 0 0 + 1) p 4 e 0 0 g (x .hit) → (t′ : List ℕ) → t′ ≡ added (x .used) q t
+            → (r : Reply) → r ≡ issued (getD t 0 0 + 1) → Moves f t r t′
+        read-done k g eg x ex q eq t′ et r er =
+            moves f t l r t′
+            (λ s o y.
+            let m = last-is o y in
+            let sc = scan-is o y (writing p e) x ex in
+            let d : f s ≡ read-from-store s p e = rw (lt-leb 8 p hp, hit-is s y false b, full-is o y false h, left-is o y k) in
+            let g-is : g ≡ cond (live s p e) (s .player p .held e) 0 = eg ∙ ap (λ (u : List ℕ). live-guard u p e) y ∙ live-state s p e hp he in
+            let q-is : q ≡ new-request (s .last + 1) p 4 e 0 0 (cond (live s p e) (s .player p .held e) 0) (any (writing p e) (s .requests)) = eq ∙ rw (m, g-is, sc) in
+            let c : length (s .requests) < places = leb-false places (length (s .requests)) (full-is o y false h) in
+            rw d (
+              er ∙ ap (λ (i : ℕ). issued (i + 1)) m,
+              et ∙ rw (y, q-is, sc) (added-state s (length (s .requests)) (new-request (s .last + 1) p 4 e 0 0 (cond (live s p e) (s .player p .held e) 0) (any (writing p e) (s .requests))) refl c refl),
+            ))
+
+-- ---- 5 write
+
+module _ (s : State) (p e : ℕ) where
+  live-zero : 0 ≡ cond (live s p e) (s .player p .held e) 0 → live s p e ≡ false
+  live-zero h =
+      ⊎-elim
+      (λ y.
+      let z : s .player p .held e ≡ 0 = sym (rw y at h) in
+      rw z)
+      (λ n. n) (decide (live s p e))
+
+  live-is : (g : ℕ) → g ≡ cond (live s p e) (s .player p .held e) 0 → (g ≡ 0 → ⊥) → (live s p e ≡ true) × (g ≡ s .player p .held e)
+  live-is g h n = ⊎-elim (λ y. (y, rw y at h)) (λ y. absurd (n (rw y at h))) (decide (live s p e))
+
+module _ (t : List ℕ) (l : length t ≡ 9473) (p e v : ℕ) where
+  abbrev w : State → Result
+  w s = step s (Write p e v)
+
+  pub write-player : 7 < p → (r : Reply) → r ≡ refusal 28 → Moves w t r t
+  write-player h r er = refused w t l 28 r er (λ s _ _. rw (le-leb 8 p h))
+
+  module _ (hp : p < 8) (he : e < 256) where
+    owner-is : (s : State) → t ≡ tableOf s → getD t (1 + e) 0 ≡ s .owners .owner e
+    owner-is s y = ap (λ (u : List ℕ). getD u (1 + e) 0) y ∙ owner-word s e he
+
+    pub write-owner : (getD t (1 + e) 0 ≡ p → ⊥) → (r : Reply) → r ≡ refusal 29 → Moves w t r t
+    write-owner n r er = refused w t l 29 r er (λ s o y. rw (lt-leb 8 p hp, ne-eqb (s .owners .owner e) p (λ z. n (owner-is s y ∙ z))))
+
+    module _ (n : getD t (1 + e) 0 ≡ p) (g : ℕ) (eg : g ≡ live-guard t p e) where
+      owned : (s : State) → t ≡ tableOf s → eqb (s .owners .owner e) p ≡ true
+      owned s y = eq-eqb (s .owners .owner e) p (sym (owner-is s y) ∙ n)
+
+      guard-is : (s : State) → t ≡ tableOf s → g ≡ cond (live s p e) (s .player p .held e) 0
+      guard-is s y = eg ∙ ap (λ (u : List ℕ). live-guard u p e) y ∙ live-state s p e hp he
+
+      pub write-dead : g ≡ 0 → (r : Reply) → r ≡ refusal 30 → Moves w t r t
+      write-dead z r er = refused w t l 30 r er (λ s o y. rw (lt-leb 8 p hp, live-zero s p e (sym z ∙ guard-is s y), owned s y))
+
+      module _ (nz : g ≡ 0 → ⊥) where
+        alive : (s : State) (y : t ≡ tableOf s) → (live s p e ≡ true) × (g ≡ s .player p .held e)
+        alive s y = live-is s p e g (guard-is s y) nz
+
+        pub write-full : true ≡ full (take 768 (drop 8705 t)) → (r : Reply) → r ≡ refusal 33 → Moves w t r t
+        write-full h r er = refused w t l 33 r er (λ s o y. rw (lt-leb 8 p hp, alive s y .0, owned s y, full-is o y true h))
+
+        module _ (h : false ≡ full (take 768 (drop 8705 t))) where
+          pub write-spent : 4000000 ≤ getD t 0 0 → (r : Reply) → r ≡ refusal 34 → Moves w t r t
+          write-spent k r er = refused w t l 34 r er (λ s o y. rw (lt-leb 8 p hp, alive s y .0, owned s y, full-is o y false h, spent-is o y k))
+
+          pub write-done : getD t 0 0 < 4000000 → (t₁ : List ℕ) → t₁ ≡ caching (p * 256 + e) 0 0 0 t → (x : Scan) (c : List ℕ) → crossing x c ≡ crossed p e (take 768 (drop 8705 t₁))
+              → (q : Request) → q ≡ new-request (getD t 0 0 + 1) p 5 e 0 v g (x .hit) → (t′ : List ℕ) → t′ ≡ added (x .used) q (putMid 8705 768 t₁ c) → (r : Reply) → r ≡ issued (getD t 0 0 + 1) → Moves w t r t′
+          write-done k t₁ e₁ x c ec q eq t′ et r er =
+              moves w t l r t′
+              (λ s o y.
+              let m = last-is o y in
+              let rs = s .requests in
+              let ms = map (λ i. cond (using-entry p e i) (mark-overlapped i) i) rs in
+              let s₁ = with-cached s p e empty in
+              let s₂ = with-requests s₁ ms in
+              let y₁ : t₁ ≡ tableOf s₁ = e₁ ∙ ap (caching (p * 256 + e) 0 0 0) y ∙ cached-put s p hp e he empty in
+              let cr : crossing x c ≡ crossing (record { used = length rs; hit = any (writing p e) rs }) (regionOf ms) = ec ∙ ap (λ (u : List ℕ). crossed p e (take 768 (drop 8705 u))) y₁ ∙ ap (crossed p e) (part-of s₁) ∙ crossed-region (s .last) rs (o .few) (o .requests) p e in
+              let x-is : x ≡ record { used = length rs; hit = any (writing p e) rs } = ap (λ (d : Crossing). d .scan) cr in
+              let y₂ : putMid 8705 768 t₁ c ≡ tableOf s₂ = rw y₁ (requests-put s₁ c ms (ap (λ (d : Crossing). d .words) cr)) in
+              let d : w s ≡ write s p e v = rw (lt-leb 8 p hp, alive s y .0, owned s y, full-is o y false h, left-is o y k) in
+              let a = new-request (s .last + 1) p 5 e 0 v (s .player p .held e) (any (writing p e) rs) in
+              let q-is : q ≡ a = eq ∙ rw (m, alive s y .1, x-is) in
+              let i : length ms ≡ length rs = length-map rs (λ i. cond (using-entry p e i) (mark-overlapped i) i) in
+              let b : length ms < places = rw i (leb-false places (length rs) (full-is o y false h)) in
+              rw d
+              (er ∙ ap (λ (i : ℕ). issued (i + 1)) m, et ∙ rw (y₂, q-is, x-is) (added-state s₂ (length rs) a (sym i) b refl)))
+
+-- ---- 3 request a guard
+
+owned-words : (s : State) (p lo n : ℕ) → lo + n ≤ 256 → all-are p (1 + lo) n (tableOf s) ≡ every lo n (owns s p)
+unfolding all-are
+owned-words s p lo zero h = refl
+owned-words s p lo (suc n) h = rw (owner-word s lo (omega arith), ← add-suc 1 lo, owned-words s p (suc lo) n (omega arith))
+
+module _ (t : List ℕ) (l : length t ≡ 9473) (p : ℕ) (g : Range) where
+  abbrev a : State → Result
+  a s = step s (RequestGuard p g)
+
+  pub request-player : 7 < p → (r : Reply) → r ≡ refusal 28 → Moves a t r t
+  request-player h r er = refused a t l 28 r er (λ s _ _. rw (le-leb 8 p h))
+
+  module _ (hp : p < 8) where
+    pub request-empty : g .high ≤ g .low → (r : Reply) → r ≡ refusal 28 → Moves a t r t
+    request-empty h r er = refused a t l 28 r er (λ s _ _. rw (lt-leb 8 p hp, le-ltb (g .low) (g .high) h))
+
+    module _ (hl : g .low < g .high) where
+      pub request-high : 256 < g .high → (r : Reply) → r ≡ refusal 28 → Moves a t r t
+      request-high h r er = refused a t l 28 r er (λ s _ _. rw (lt-leb 8 p hp, lt-ltb (g .low) (g .high) hl, lt-leb (g .high) 256 h))
+
+      module _ (hh : g .high ≤ 256) where
+        owns-is : (s : State) → t ≡ tableOf s → (b : Bool) → b ≡ all-are p (1 + g .low) (1 + g .high - (1 + g .low)) t → all-entries (owns s p) (g .low) (g .high) ≡ b
+        owns-is s y b eb =
+            let n : 1 + g .high - (1 + g .low) ≡ g .high - g .low = omega arith in
+            sym (eb ∙ rw (n, y) (owned-words s p (g .low) (g .high - g .low) (omega arith)))
+
+        pub request-owner : false ≡ all-are p (1 + g .low) (1 + g .high - (1 + g .low)) t → (r : Reply) → r ≡ refusal 29 → Moves a t r t
+        request-owner b r er = refused a t l 29 r er (λ s o y. rw (lt-leb 8 p hp, lt-ltb (g .low) (g .high) hl, le-leb (g .high) 256 hh, owns-is s y false b))
+
+        module _ (b : true ≡ all-are p (1 + g .low) (1 + g .high - (1 + g .low)) t) (x : Scan) (ex : x ≡ scanned (requesting p g) (take 768 (drop 8705 t))) where
+          module _ (s : State) (o : Ok s) (y : t ≡ tableOf s) where
+            hit-of : (c : Bool) → x .hit ≡ c → any (requesting p g) (s .requests) ≡ c
+            hit-of c ec = sym (ap (λ (i : Scan). i .hit) (scan-is o y (requesting p g) x ex)) ∙ ec
+
+            used-of : x .used ≡ length (s .requests)
+            used-of = ap (λ (i : Scan). i .used) (scan-is o y (requesting p g) x ex)
+
+          pub request-again : x .hit ≡ true → (r : Reply) → r ≡ refusal 31 → Moves a t r t
+          request-again c r er = refused a t l 31 r er (λ s o y. rw (lt-leb 8 p hp, lt-ltb (g .low) (g .high) hl, le-leb (g .high) 256 hh, owns-is s y true b, hit-of s o y true c))
+
+          module _ (c : x .hit ≡ false) where
+            pub request-full : 64 ≤ x .used → (r : Reply) → r ≡ refusal 33 → Moves a t r t
+            request-full h r er =
+                refused a t l 33 r er
+                (λ s o y.
+                let u = used-of s o y in
+                rw (lt-leb 8 p hp, lt-ltb (g .low) (g .high) hl, le-leb (g .high) 256 hh, owns-is s y true b, hit-of s o y false c, le-leb 64 (length (s .requests)) (omega arith)))
+
+            module _ (h : x .used < 64) where
+              pub request-spent : 4000000 ≤ getD t 0 0 → (r : Reply) → r ≡ refusal 34 → Moves a t r t
+              request-spent k r er =
+                  refused a t l 34 r er
+                  (λ s o y.
+                  let u = used-of s o y in
+                  rw (lt-leb 8 p hp, lt-ltb (g .low) (g .high) hl, le-leb (g .high) 256 hh, owns-is s y true b, hit-of s o y false c, lt-leb 64 (length (s .requests)) (omega arith), spent-is o y k))
+
+              pub request-done : getD t 0 0 < 4000000 → (t₁ : List ℕ) → t₁ ≡ cleared (p * 256 + g .low) (p * 256 + g .high) t → (q : Request) → q ≡ new-request (getD t 0 0 + 1) p 3 (g .low) (g .high) 0 0 false
+                  → (t′ : List ℕ) → t′ ≡ added (x .used) q t₁ → (r : Reply) → r ≡ issued (getD t 0 0 + 1) → Moves a t r t′
+              request-done k t₁ e₁ q eq t′ et r er =
+                  moves a t l r t′
+                  (λ s o y.
+                  let m = last-is o y in
+                  let u = used-of s o y in
+                  let lo = g .low in
+                  let hi = g .high in
+                  let pl = cleared-player lo hi (s .player p) in
+                  let s₁ = with-player s p pl in
+                  let y₁ : t₁ ≡ tableOf s₁ = e₁ ∙ ap (cleared (p * 256 + lo) (p * 256 + hi)) y ∙ cleared-put s p hp lo hi (omega arith) hh pl (λ i _. refl) (λ i _. refl) in
+                  let d : a s ≡ request-guard s p g = rw (lt-leb 8 p hp, lt-ltb lo hi hl, le-leb hi 256 hh, owns-is s y true b, hit-of s o y false c, lt-leb 64 (length (s .requests)) (omega arith), left-is o y k) in
+                  let j = new-request (s .last + 1) p 3 lo hi 0 0 false in
+                  let q-is : q ≡ j = eq ∙ rw m in
+                  rw d (er ∙ ap (λ (i : ℕ). issued (i + 1)) m, et ∙ rw (y₁, q-is) (added-state s₁ (x .used) j u (omega arith) refl)))

@@ -1,0 +1,222 @@
+-- The words of a state's table: what is read of them, and the state that they hold once they are changed.
+-- Assumes nothing.
+use mathlib.Core.Path.{_≡_, refl, sym, ap, _∙_}
+use mathlib.Core.Logic.{⊎-elim}
+use mathlib.Core.Bool.{Bool, true, false, cond, not, _&&_, and-true, and-false}
+use mathlib.Core.List.{List, [], _∷_, _++_}
+use Prim.Native.Nat.{ℕ, _+_, _*_, _≤_, _<_}
+use native.Mathlib.Nat.{zero-add}
+use native.Mathlib.Omega.{arith}
+use lib.Dec.{eqb}
+use lib.ListN.{length, getD, take, drop, set, length-set}
+use borrow.Author.Tests.{eq-eqb, ne-eqb, eqb-true, eqb-false}
+use borrow.Rule.Slice.PartMut.{putMid}
+use Rattle.store.specs.Model.{put, fill, within}
+use Rattle.store.specs.Table.{listed}
+use Rattle.store.specs.declared.Range.{Range}
+use Rattle.store.proofs.Lists.{getD-listed}
+use Rattle.requests.specs.declared.Request.{Request}
+use Rattle.requests.specs.Model.{places}
+use Rattle.requests.specs.Region.{regionOf}
+use Rattle.requests.specs.Calls.{with-request}
+use Rattle.requests.proofs.Basics.{decide, cond-elim}
+use Rattle.requests.proofs.RegionLaws.{append-region}
+use Rattle.players.specs.Rules.{Cached, empty, Player, State, with-requests, with-player, issue, live, set-owner, cache-hit, grant, with-cached}
+use Rattle.players.specs.Table.{region, cells, tableOf}
+use Rattle.players.proofs.Regions.{region-at, table, Sized, with-owners, with-held, with-guards, with-versions, with-values, sized-owners, sized-held, sized-guards, sized-versions, put-requests}
+use Rattle.players.proofs.Tables.{wordsIn, sized-state, tableOf-is, owners-of, epochs-of, held-of, guards-of, versions-of, values-of, requests-of}
+use Rattle.steps.specs.Calls.{live-guard, hit, added, caching, filled, cleared}
+use Rattle.steps.proofs.RunLaws.{run, length-run, run-listed, cells-at, same-cells, set-cells, run-cells, put-part, keep-part}
+use Rattle.steps.proofs.TableLaws.{set-guards, set-versions, set-values, fill-owners, fill-epochs, fill-held, fill-guards, fill-versions, fill-values}
+
+-- ---- what is read
+
+-- a guard that is compared with the live one
+same-live : (g h : ℕ) (v : Bool) → (not (eqb g 0) && eqb (cond v h 0) g) ≡ (not (eqb g 0) && (eqb g h && v))
+same-live g h v =
+    ⊎-elim (λ z. rw z)
+    (λ z.
+    rw z
+    (cond-elim (λ (x : ℕ). eqb x g ≡ (eqb g h && v)) v h 0 (λ y. rw y (eqb-sym h g ∙ sym (and-true (eqb g h))))
+    (λ y. rw (y, and-false) (ne-eqb 0 g (λ x. eqb-false g 0 z (sym x))))))
+    (decide (eqb g 0))
+  where
+    eqb-sym : (a b : ℕ) → eqb a b ≡ eqb b a
+    eqb-sym a b = ⊎-elim (λ y. y ∙ sym (eq-eqb b a (sym (eqb-true a b y)))) (λ n. n ∙ sym (ne-eqb b a (λ z. eqb-false a b n (sym z)))) (decide (eqb a b))
+
+module _ (s : State) where
+  listed-word : (b : ℕ) (f : ℕ → ℕ) → region b 256 (tableOf s) ≡ listed f 0 256 → (e : ℕ) → e < 256 → getD (tableOf s) (b + e) 0 ≡ f e
+  listed-word b f r e h = sym (region-at b 256 (tableOf s) e 0 h) ∙ ap (λ (l : List ℕ). getD l e 0) r ∙ getD-listed f 0 256 e h ∙ ap f (zero-add e)
+
+  pub owner-word : (e : ℕ) → e < 256 → getD (tableOf s) (1 + e) 0 ≡ s .owners .owner e
+  owner-word e h = listed-word 1 (s .owners .owner) (owners-of s) e h
+
+  pub epoch-word : (e : ℕ) → e < 256 → getD (tableOf s) (257 + e) 0 ≡ s .owners .epoch e
+  epoch-word e h = listed-word 257 (s .owners .epoch) (epochs-of s) e h
+
+  module _ (p e : ℕ) (hp : p < 8) (he : e < 256) where
+    cell-word : (b : ℕ) (f : ℕ → ℕ → ℕ) → region b 2048 (tableOf s) ≡ cells f → getD (tableOf s) (b + (p * 256 + e)) 0 ≡ f p e
+    cell-word b f r = sym (region-at b 2048 (tableOf s) (p * 256 + e) 0 (omega arith)) ∙ ap (λ (l : List ℕ). getD l (p * 256 + e) 0) r ∙ cells-at f p e hp he
+
+    pub held-word : getD (tableOf s) (513 + (p * 256 + e)) 0 ≡ s .player p .held e
+    held-word = cell-word 513 (λ q x. s .player q .held x) (held-of s)
+
+    pub guard-word : getD (tableOf s) (2561 + (p * 256 + e)) 0 ≡ s .player p .cached e .guard
+    guard-word = cell-word 2561 (λ q x. s .player q .cached x .guard) (guards-of s)
+
+    pub version-word : getD (tableOf s) (4609 + (p * 256 + e)) 0 ≡ s .player p .cached e .version
+    version-word = cell-word 4609 (λ q x. s .player q .cached x .version) (versions-of s)
+
+    pub value-word : getD (tableOf s) (6657 + (p * 256 + e)) 0 ≡ s .player p .cached e .value
+    value-word = cell-word 6657 (λ q x. s .player q .cached x .value) (values-of s)
+
+    pub live-state : live-guard (tableOf s) p e ≡ cond (live s p e) (s .player p .held e) 0
+    unfolding live-guard
+    live-state = rw (held-word, owner-word e he, epoch-word e he)
+
+    pub hit-state : hit (tableOf s) p e ≡ cache-hit s p e
+    unfolding hit
+    hit-state = rw (guard-word, live-state) (same-live (s .player p .cached e .guard) (s .player p .held e) (live s p e))
+
+-- ---- the requests, and the last serial
+
+pub part-of : (s : State) → take 768 (drop 8705 (tableOf s)) ≡ regionOf (s .requests)
+unfolding region
+part-of s = requests-of s
+
+pub requests-put : (s : State) (q : List ℕ) (rs : List Request) → q ≡ regionOf rs → putMid 8705 768 (tableOf s) q ≡ tableOf (with-requests s rs)
+unfolding tableOf
+requests-put s q rs e = rw e (put-requests (wordsIn s) (sized-state s) (regionOf rs))
+
+pub issue-put : (s : State) (n : ℕ) → n ≡ s .last + 1 → set (tableOf s) 0 n ≡ tableOf (issue s)
+unfolding tableOf
+issue-put s n e = rw e
+
+-- a request is added
+pub added-state : (s : State) (k : ℕ) (r : Request) → k ≡ length (s .requests) → length (s .requests) < places → r .serial ≡ s .last + 1
+    → added k r (tableOf s) ≡ tableOf (with-requests (issue s) (s .requests ++ (r ∷ [])))
+unfolding added
+added-state s k r ek h er =
+    rw (issue-put s (r .serial) er, ek)
+    (requests-put (issue s) _ _ (ap (with-request (length (s .requests)) r) (part-of (issue s)) ∙ append-region (s .requests) r h))
+
+-- ---- owners
+
+pub owners-put : (s : State) (p n : ℕ) (g : Range) → n ≡ s .last + 1 → g .low ≤ g .high → g .high ≤ 256 → filled 257 (g .low) (g .high) n (filled 1 (g .low) (g .high) p (set (tableOf s) 0 n)) ≡ tableOf (set-owner s p g .state)
+unfolding tableOf
+owners-put s p n g e a h =
+    let lo = g .low in
+    let hi = g .high in
+    let w = wordsIn (issue s) in
+    let z : Sized w = sized-state (issue s) in
+    let os : List ℕ = run lo hi p (w .owners) in
+    let lo-is : length os ≡ 256 = length-run lo hi p (w .owners) a (omega (arith, z .owners)) ∙ z .owners in
+    rw e
+    (ap (filled 257 lo hi (s .last + 1)) (fill-owners w z lo hi p a h)
+    ∙ fill-epochs (with-owners w os) (sized-owners z os lo-is) lo hi (s .last + 1) a h
+    ∙ rw (run-listed (s .owners .owner) 256 lo hi p a h, run-listed (s .owners .epoch) 256 lo hi (s .last + 1) a h))
+
+-- ---- one player
+
+module _ (s : State) (p : ℕ) (pl : Player) where
+  pub player-table : (hs gs vs xs : List ℕ)
+      → hs ≡ cells (λ q x. put p pl (s .player) q .held x)
+      → gs ≡ cells (λ q x. put p pl (s .player) q .cached x .guard)
+      → vs ≡ cells (λ q x. put p pl (s .player) q .cached x .version)
+      → xs ≡ cells (λ q x. put p pl (s .player) q .cached x .value)
+      → table (with-values (with-versions (with-guards (with-held (wordsIn s) hs) gs) vs) xs) ≡ tableOf (with-player s p pl)
+  unfolding tableOf
+  player-table hs gs vs xs eh eg ev ex = rw (eh, eg, ev, ex)
+
+  -- what a region becomes whose cells of player p are changed
+  pub held-changed : (w : ℕ → Bool) (v : ℕ) → ((x : ℕ) → x < 256 → pl .held x ≡ cond (w x) v (s .player p .held x)) → cells (λ q x. cond (eqb q p && w x) v (s .player q .held x)) ≡ cells (λ q x. put p pl (s .player) q .held x)
+  held-changed w v e = same-cells _ _ (λ q x _ h. put-part (λ P. P .held x) (s .player) p pl (w x) v (e x h) q)
+
+  pub cached-changed : (F : Cached → ℕ) (w : ℕ → Bool) (v : ℕ) → ((x : ℕ) → x < 256 → F (pl .cached x) ≡ cond (w x) v (F (s .player p .cached x))) → cells (λ q x. cond (eqb q p && w x) v (F (s .player q .cached x))) ≡ cells (λ q x. F (put p pl (s .player) q .cached x))
+  cached-changed F w v e = same-cells _ _ (λ q x _ h. put-part (λ P. F (P .cached x)) (s .player) p pl (w x) v (e x h) q)
+
+  pub held-kept : pl .held ≡ s .player p .held → cells (λ q x. s .player q .held x) ≡ cells (λ q x. put p pl (s .player) q .held x)
+  held-kept e = same-cells _ _ (λ q x _ _. keep-part (λ P. P .held x) (s .player) p pl (ap (λ (f : ℕ → ℕ). f x) e) q)
+
+  pub cached-kept : (F : Cached → ℕ) → pl .cached ≡ s .player p .cached → cells (λ q x. F (s .player q .cached x)) ≡ cells (λ q x. F (put p pl (s .player) q .cached x))
+  cached-kept F e = same-cells _ _ (λ q x _ _. keep-part (λ P. F (P .cached x)) (s .player) p pl (ap (λ (f : ℕ → Cached). F (f x)) e) q)
+
+pub field-cond : (F : Cached → ℕ) (b : Bool) (c d : Cached) → F (cond b c d) ≡ cond b (F c) (F d)
+field-cond F true c d = refl
+field-cond F false c d = refl
+
+module _ (s : State) (p : ℕ) (hp : p < 8) where
+  -- what is cached for an entry
+  module _ (e : ℕ) (he : e < 256) (c : Cached) where
+    abbrev caches : Player
+    caches = record { held = s .player p .held; cached = put e c (s .player p .cached) }
+
+    cell-set : (F : Cached → ℕ) → set (cells (λ q x. F (s .player q .cached x))) (p * 256 + e) (F c) ≡ cells (λ q x. F (put p caches (s .player) q .cached x))
+    cell-set F = set-cells (λ q x. F (s .player q .cached x)) p e (F c) hp he ∙ cached-changed s p caches F (λ x. eqb x e) (F c) (λ x _. field-cond F (eqb x e) c (s .player p .cached x))
+
+    pub cached-put : caching (p * 256 + e) (c .guard) (c .version) (c .value) (tableOf s) ≡ tableOf (with-cached s p e c)
+    unfolding caching
+    cached-put =
+        let w = wordsIn s in
+        let z : Sized w = sized-state s in
+        let i : ℕ = p * 256 + e in
+        let h : i < 2048 = omega arith in
+        let gs : List ℕ = set (w .guards) i (c .guard) in
+        let vs : List ℕ = set (w .versions) i (c .version) in
+        let z₁ : Sized (with-guards w gs) = sized-guards z gs (length-set (w .guards) i (c .guard) ∙ z .guards) in
+        let z₂ : Sized (with-versions (with-guards w gs) vs) = sized-versions z₁ vs (length-set (w .versions) i (c .version) ∙ z .versions) in
+        ap (λ (t : List ℕ). set (set (set t (2561 + i) (c .guard)) (4609 + i) (c .version)) (6657 + i) (c .value)) (tableOf-is s)
+        ∙ ap (λ (t : List ℕ). set (set t (4609 + i) (c .version)) (6657 + i) (c .value)) (set-guards w z i (c .guard) h)
+        ∙ ap (λ (t : List ℕ). set t (6657 + i) (c .value)) (set-versions (with-guards w gs) z₁ i (c .version) h)
+        ∙ set-values (with-versions (with-guards w gs) vs) z₂ i (c .value) h
+        ∙ player-table s p caches (w .held) gs vs _ (held-kept s p caches refl) (cell-set (λ d. d .guard)) (cell-set (λ d. d .version)) (cell-set (λ d. d .value))
+
+  -- guards over a range of entries
+  module _ (lo hi : ℕ) (a : lo ≤ hi) (h : hi ≤ 256) where
+    abbrev from : ℕ
+    from = p * 256 + lo
+
+    abbrev to : ℕ
+    to = p * 256 + hi
+
+    pub granted : (n : ℕ) → filled 513 from to n (tableOf s) ≡ tableOf (grant s p lo hi n)
+    granted n =
+        let w = wordsIn s in
+        let pl : Player = record { held = fill lo hi n (s .player p .held); cached = s .player p .cached } in
+        ap (filled 513 from to n) (tableOf-is s)
+        ∙ fill-held w (sized-state s) from to n (omega arith) (omega arith)
+        ∙ player-table s p pl _ (w .guards) (w .versions) (w .values)
+        (run-cells (λ q x. s .player q .held x) p lo hi n hp a h ∙ held-changed s p pl (within lo hi) n (λ x _. refl))
+        (cached-kept s p pl (λ d. d .guard) refl) (cached-kept s p pl (λ d. d .version) refl) (cached-kept s p pl (λ d. d .value) refl)
+
+    -- cleared, each with what is cached under it; pl is the player after it
+    module _ (pl : Player) (eh : (x : ℕ) → x < 256 → pl .held x ≡ cond (within lo hi x) 0 (s .player p .held x)) (ec : (x : ℕ) → x < 256 → pl .cached x ≡ cond (within lo hi x) empty (s .player p .cached x)) where
+      run-cached : (F : Cached → ℕ) → F empty ≡ 0 → run from to 0 (cells (λ q x. F (s .player q .cached x))) ≡ cells (λ q x. F (put p pl (s .player) q .cached x))
+      run-cached F z =
+          run-cells (λ q x. F (s .player q .cached x)) p lo hi 0 hp a h
+          ∙ cached-changed s p pl F (within lo hi) 0
+          (λ x k. ap F (ec x k) ∙ field-cond F (within lo hi x) empty (s .player p .cached x) ∙ ap (λ (v : ℕ). cond (within lo hi x) v (F (s .player p .cached x))) z)
+
+      pub cleared-put : cleared from to (tableOf s) ≡ tableOf (with-player s p pl)
+      unfolding cleared
+      cleared-put =
+          let w = wordsIn s in
+          let z : Sized w = sized-state s in
+          let b : from ≤ to = omega arith in
+          let k : to ≤ 2048 = omega arith in
+          let hs : List ℕ = run from to 0 (w .held) in
+          let gs : List ℕ = run from to 0 (w .guards) in
+          let vs : List ℕ = run from to 0 (w .versions) in
+          let w₁ = with-held w hs in
+          let z₁ : Sized w₁ = sized-held z hs (length-run from to 0 (w .held) b (omega (arith, z .held)) ∙ z .held) in
+          let w₂ = with-guards w₁ gs in
+          let z₂ : Sized w₂ = sized-guards z₁ gs (length-run from to 0 (w .guards) b (omega (arith, z .guards)) ∙ z .guards) in
+          let w₃ = with-versions w₂ vs in
+          let z₃ : Sized w₃ = sized-versions z₂ vs (length-run from to 0 (w .versions) b (omega (arith, z .versions)) ∙ z .versions) in
+          ap (λ (t : List ℕ). filled 6657 from to 0 (filled 4609 from to 0 (filled 2561 from to 0 (filled 513 from to 0 t)))) (tableOf-is s)
+          ∙ ap (λ (t : List ℕ). filled 6657 from to 0 (filled 4609 from to 0 (filled 2561 from to 0 t))) (fill-held w z from to 0 b k)
+          ∙ ap (λ (t : List ℕ). filled 6657 from to 0 (filled 4609 from to 0 t)) (fill-guards w₁ z₁ from to 0 b k)
+          ∙ ap (λ (t : List ℕ). filled 6657 from to 0 t) (fill-versions w₂ z₂ from to 0 b k)
+          ∙ fill-values w₃ z₃ from to 0 b k
+          ∙ player-table s p pl hs gs vs _ (run-cells (λ q x. s .player q .held x) p lo hi 0 hp a h ∙ held-changed s p pl (within lo hi) 0 eh)
+          (run-cached (λ d. d .guard) refl) (run-cached (λ d. d .version) refl) (run-cached (λ d. d .value) refl)

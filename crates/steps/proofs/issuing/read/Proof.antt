@@ -1,0 +1,167 @@
+-- `steps::issuing::read` meets its contract: a case at each return.
+-- Assumes nothing.
+use mathlib.Core.Path.{sym, _∙_}
+use native.Mathlib.Omega.{arith}
+use borrow.Author.Needs.{needs}
+use Rattle.steps.proofs.IssuingLaws.{read-player, read-hit, read-full, read-spent, read-done}
+use Rattle.steps.proofs.issuing.read.Statement.{statement}
+use Rattle.steps.proofs.issuing.read.Tie as tie
+
+refuse-requires : tie.Need-refuse-requires
+refuse-requires c κs = search needs
+
+returns : tie.Need-returns
+returns c =
+    let a = c .before .before .before .args in
+    read-player (a .players .now) (c .before .before .before .pre) (a .player) (a .entry) (omega arith) _ (c .refuse .ensures)
+
+mul-i : tie.Need-mul-i
+mul-i c = search needs
+
+add-i : tie.Need-add-i
+add-i c = search needs
+
+is-hit-requires : tie.Need-is-hit-requires
+is-hit-requires c κs = search needs
+
+add-t15 : tie.Need-add-t15
+add-t15 c = search needs
+
+mul-t16 : tie.Need-mul-t16
+mul-t16 c = search needs
+
+slice-read-t18 : tie.Need-slice-read-t18
+slice-read-t18 c = search needs
+
+add-t19 : tie.Need-add-t19
+add-t19 c = search needs
+
+mul-t20 : tie.Need-mul-t20
+mul-t20 c = search needs
+
+slice-read-t22 : tie.Need-slice-read-t22
+slice-read-t22 c = search needs
+
+same-length : tie.Need-same-length
+same-length c = search needs
+
+returns-2 : tie.Need-returns-2
+returns-2 c =
+    let a = c .before .before .before .before .before .before .before .args in
+    read-hit (a .players .now) (c .before .before .before .before .before .before .before .pre) (a .player) (a .entry) (omega arith) (omega arith) (sym (c .before .before .if2 .taken) ∙ c .before .before .before .is-hit .ensures)
+
+sub-is-full : tie.Need-sub-is-full
+sub-is-full c = search needs
+
+part-is-full-start : tie.Need-part-is-full-start
+part-is-full-start c = search needs
+
+part-is-full-end : tie.Need-part-is-full-end
+part-is-full-end c = search needs
+
+is-full-requires : tie.Need-is-full-requires
+is-full-requires c κs = search needs
+
+refuse-requires-2 : tie.Need-refuse-requires-2
+refuse-requires-2 c κs = search needs
+
+same-length-2 : tie.Need-same-length-2
+same-length-2 c = search needs
+
+returns-3 : tie.Need-returns-3
+returns-3 c =
+    let a = c .before .before .before .before .before .before .before .before .before .before .args in
+    read-full (a .players .now) (c .before .before .before .before .before .before .before .before .before .before .pre) (a .player) (a .entry) (omega arith) (omega arith) (sym (c .before .before .before .before .before .if2 .left) ∙ c .before .before .before .before .before .before .is-hit .ensures) (sym (c .before .if3 .taken) ∙ c .before .before .is-full .ensures) _ (c .refuse2 .ensures)
+
+slice-read-last : tie.Need-slice-read-last
+slice-read-last c = search needs
+
+refuse-requires-3 : tie.Need-refuse-requires-3
+refuse-requires-3 c κs = search needs
+
+same-length-3 : tie.Need-same-length-3
+same-length-3 c = search needs
+
+returns-4 : tie.Need-returns-4
+returns-4 c =
+    let a = c .before .before .before .before .before .before .before .before .before .before .before .before .args in
+    read-spent (a .players .now) (c .before .before .before .before .before .before .before .before .before .before .before .before .pre) (a .player) (a .entry) (omega arith) (omega arith) (sym (c .before .before .before .before .before .before .before .if2 .left) ∙ c .before .before .before .before .before .before .before .before .is-hit .ensures) (sym (c .before .before .before .if3 .left) ∙ c .before .before .before .before .is-full .ensures) (omega arith) _ (c .refuse3 .ensures)
+
+live-guard-requires : tie.Need-live-guard-requires
+live-guard-requires c κs = search needs
+
+sub-scan-writes : tie.Need-sub-scan-writes
+sub-scan-writes c = search needs
+
+part-scan-writes-start : tie.Need-part-scan-writes-start
+part-scan-writes-start c = search needs
+
+part-scan-writes-end : tie.Need-part-scan-writes-end
+part-scan-writes-end c = search needs
+
+scan-writes-requires : tie.Need-scan-writes-requires
+scan-writes-requires c κs = search needs
+
+add-for-entry : tie.Need-add-for-entry
+add-for-entry c = search needs
+
+for-entry-requires : tie.Need-for-entry-requires
+for-entry-requires c κs = search needs
+
+add-requires : tie.Need-add-requires
+add-requires c κs = search needs
+
+add-issued : tie.Need-add-issued
+add-issued c = search needs
+
+issued-requires : tie.Need-issued-requires
+issued-requires c κs = search needs
+
+same-length-4 : tie.Need-same-length-4
+same-length-4 c = search needs
+
+returns-5 : tie.Need-returns-5
+returns-5 c =
+    let a = c .before .before .before .before .before .before .before .before .before .before .before .before .before .before .before .before .before .before .before .before .before .before .args in
+    read-done (a .players .now) (c .before .before .before .before .before .before .before .before .before .before .before .before .before .before .before .before .before .before .before .before .before .before .pre) (a .player) (a .entry) (omega (arith, c .before .before .before .before .before .before .before .before .before .before .before .before .before .before .before .before .before .before .before .before .if1 .left)) (omega (arith, c .before .before .before .before .before .before .before .before .before .before .before .before .before .before .before .before .before .before .before .before .before .before .fits)) (sym (c .before .before .before .before .before .before .before .before .before .before .before .before .before .before .before .before .before .if2 .left) ∙ c .before .before .before .before .before .before .before .before .before .before .before .before .before .before .before .before .before .before .is-hit .ensures) (sym (c .before .before .before .before .before .before .before .before .before .before .before .before .before .if3 .left) ∙ c .before .before .before .before .before .before .before .before .before .before .before .before .before .before .is-full .ensures) (omega (arith, c .before .before .before .before .before .before .before .before .before .before .before .if4 .left)) _ (c .before .before .before .before .before .before .before .before .before .live-guard .ensures) _ (c .before .before .before .before .before .before .scan-writes .ensures) _ (c .before .before .before .before .for-entry .ensures) _ (c .before .before .before .add .ensures) _ (c .issued .ensures)
+
+pub read-spec : {M : Type 1} → statement M
+read-spec =
+    tie.close
+    (tie.spec
+    refuse-requires
+    returns
+    mul-i
+    add-i
+    is-hit-requires
+    add-t15
+    mul-t16
+    slice-read-t18
+    add-t19
+    mul-t20
+    slice-read-t22
+    same-length
+    returns-2
+    sub-is-full
+    part-is-full-start
+    part-is-full-end
+    is-full-requires
+    refuse-requires-2
+    same-length-2
+    returns-3
+    slice-read-last
+    refuse-requires-3
+    same-length-3
+    returns-4
+    live-guard-requires
+    sub-scan-writes
+    part-scan-writes-start
+    part-scan-writes-end
+    scan-writes-requires
+    add-for-entry
+    for-entry-requires
+    add-requires
+    add-issued
+    issued-requires
+    same-length-4
+    returns-5)

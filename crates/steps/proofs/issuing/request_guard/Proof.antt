@@ -1,0 +1,186 @@
+-- `steps::issuing::request_guard` meets its contract: a case at each return.
+-- Assumes nothing.
+use mathlib.Core.Path.{sym, _∙_}
+use native.Mathlib.Omega.{arith}
+use borrow.Author.Needs.{needs}
+use borrow.Author.Tests.{not-true, not-false}
+use Rattle.steps.proofs.IssuingLaws.{request-player, request-empty, request-high, request-owner, request-again, request-full, request-spent, request-done}
+use Rattle.steps.proofs.issuing.request_guard.Statement.{statement}
+use Rattle.steps.proofs.issuing.request_guard.Tie as tie
+
+refuse-requires : tie.Need-refuse-requires
+refuse-requires c κs = search needs
+
+returns : tie.Need-returns
+returns c =
+    let a = c .before .before .before .args in
+    request-player (a .players .now) (c .before .before .before .pre) (a .player) (a .range) (omega arith) _ (c .refuse .ensures)
+
+cast-low : tie.Need-cast-low
+cast-low c = search needs
+
+cast-high : tie.Need-cast-high
+cast-high c = search needs
+
+refuse-requires-2 : tie.Need-refuse-requires-2
+refuse-requires-2 c κs = search needs
+
+returns-2 : tie.Need-returns-2
+returns-2 c =
+    let a = c .before .before .before .before .before .before .args in
+    request-empty (a .players .now) (c .before .before .before .before .before .before .pre) (a .player) (a .range) (omega arith) (omega arith) _ (c .refuse2 .ensures)
+
+refuse-requires-3 : tie.Need-refuse-requires-3
+refuse-requires-3 c κs = search needs
+
+returns-3 : tie.Need-returns-3
+returns-3 c =
+    let a = c .before .before .before .before .before .before .before .args in
+    request-high (a .players .now) (c .before .before .before .before .before .before .before .pre) (a .player) (a .range) (omega arith) (omega arith) (omega arith) _ (c .refuse3 .ensures)
+
+add-all-are : tie.Need-add-all-are
+add-all-are c = search needs
+
+add-all-are-2 : tie.Need-add-all-are-2
+add-all-are-2 c = search needs
+
+all-are-requires : tie.Need-all-are-requires
+all-are-requires c κs = search needs
+
+refuse-requires-4 : tie.Need-refuse-requires-4
+refuse-requires-4 c κs = search needs
+
+same-length : tie.Need-same-length
+same-length c = search needs
+
+returns-4 : tie.Need-returns-4
+returns-4 c =
+    let a = c .before .before .before .before .before .before .before .before .before .before .args in
+    request-owner (a .players .now) (c .before .before .before .before .before .before .before .before .before .before .pre) (a .player) (a .range) (omega arith) (omega arith) (omega arith) (sym (not-true _ (c .before .if4 .taken)) ∙ c .before .before .all-are .ensures) _ (c .refuse4 .ensures)
+
+sub-scan-requests : tie.Need-sub-scan-requests
+sub-scan-requests c = search needs
+
+part-scan-requests-start : tie.Need-part-scan-requests-start
+part-scan-requests-start c = search needs
+
+part-scan-requests-end : tie.Need-part-scan-requests-end
+part-scan-requests-end c = search needs
+
+scan-requests-requires : tie.Need-scan-requests-requires
+scan-requests-requires c κs = search needs
+
+refuse-requires-5 : tie.Need-refuse-requires-5
+refuse-requires-5 c κs = search needs
+
+same-length-2 : tie.Need-same-length-2
+same-length-2 c = search needs
+
+returns-5 : tie.Need-returns-5
+returns-5 c =
+    let a = c .before .before .before .before .before .before .before .before .before .before .before .before .before .before .args in
+    request-again (a .players .now) (c .before .before .before .before .before .before .before .before .before .before .before .before .before .before .pre) (a .player) (a .range) (omega arith) (omega arith) (omega arith) (sym (not-false _ (c .before .before .before .before .before .if4 .left)) ∙ c .before .before .before .before .before .before .all-are .ensures) _ (c .before .before .scan-requests .ensures) (c .before .if5 .taken) _ (c .refuse5 .ensures)
+
+refuse-requires-6 : tie.Need-refuse-requires-6
+refuse-requires-6 c κs = search needs
+
+same-length-3 : tie.Need-same-length-3
+same-length-3 c = search needs
+
+returns-6 : tie.Need-returns-6
+returns-6 c =
+    let a = c .before .before .before .before .before .before .before .before .before .before .before .before .before .before .before .before .args in
+    request-full (a .players .now) (c .before .before .before .before .before .before .before .before .before .before .before .before .before .before .before .before .pre) (a .player) (a .range) (omega arith) (omega arith) (omega arith) (sym (not-false _ (c .before .before .before .before .before .before .before .if4 .left)) ∙ c .before .before .before .before .before .before .before .before .all-are .ensures) _ (c .before .before .before .before .scan-requests .ensures) (c .before .before .before .if5 .left) (omega arith) _ (c .refuse6 .ensures)
+
+slice-read-last : tie.Need-slice-read-last
+slice-read-last c = search needs
+
+refuse-requires-7 : tie.Need-refuse-requires-7
+refuse-requires-7 c κs = search needs
+
+same-length-4 : tie.Need-same-length-4
+same-length-4 c = search needs
+
+returns-7 : tie.Need-returns-7
+returns-7 c =
+    let a = c .before .before .before .before .before .before .before .before .before .before .before .before .before .before .before .before .before .before .args in
+    request-spent (a .players .now) (c .before .before .before .before .before .before .before .before .before .before .before .before .before .before .before .before .before .before .pre) (a .player) (a .range) (omega arith) (omega arith) (omega arith) (sym (not-false _ (c .before .before .before .before .before .before .before .before .before .if4 .left)) ∙ c .before .before .before .before .before .before .before .before .before .before .all-are .ensures) _ (c .before .before .before .before .before .before .scan-requests .ensures) (c .before .before .before .before .before .if5 .left) (omega arith) (omega arith) _ (c .refuse7 .ensures)
+
+mul-i : tie.Need-mul-i
+mul-i c = search needs
+
+add-clear : tie.Need-add-clear
+add-clear c = search needs
+
+add-clear-2 : tie.Need-add-clear-2
+add-clear-2 c = search needs
+
+clear-requires : tie.Need-clear-requires
+clear-requires c κs = search needs
+
+add-for-guard : tie.Need-add-for-guard
+add-for-guard c = search needs
+
+for-guard-requires : tie.Need-for-guard-requires
+for-guard-requires c κs = search needs
+
+add-requires : tie.Need-add-requires
+add-requires c κs = search needs
+
+add-issued : tie.Need-add-issued
+add-issued c = search needs
+
+issued-requires : tie.Need-issued-requires
+issued-requires c κs = search needs
+
+same-length-5 : tie.Need-same-length-5
+same-length-5 c = search needs
+
+returns-8 : tie.Need-returns-8
+returns-8 c =
+    let a = c .before .before .before .before .before .before .before .before .before .before .before .before .before .before .before .before .before .before .before .before .before .before .before .before .before .before .before .args in
+    request-done (a .players .now) (c .before .before .before .before .before .before .before .before .before .before .before .before .before .before .before .before .before .before .before .before .before .before .before .before .before .before .before .pre) (a .player) (a .range) (omega (arith, c .before .before .before .before .before .before .before .before .before .before .before .before .before .before .before .before .before .before .before .before .before .before .before .before .before .if1 .left)) (omega (arith, c .before .before .before .before .before .before .before .before .before .before .before .before .before .before .before .before .before .before .before .before .before .before .if2 .left)) (omega (arith, c .before .before .before .before .before .before .before .before .before .before .before .before .before .before .before .before .before .before .before .before .before .if3 .left)) (sym (not-false _ (c .before .before .before .before .before .before .before .before .before .before .before .before .before .before .before .before .before .before .if4 .left)) ∙ c .before .before .before .before .before .before .before .before .before .before .before .before .before .before .before .before .before .before .before .all-are .ensures) _ (c .before .before .before .before .before .before .before .before .before .before .before .before .before .before .before .scan-requests .ensures) (c .before .before .before .before .before .before .before .before .before .before .before .before .before .before .if5 .left) (omega (arith, c .before .before .before .before .before .before .before .before .before .before .before .before .if6 .left)) (omega (arith, c .before .before .before .before .before .before .before .before .before .before .if7 .left)) _ (c .before .before .before .before .before .before .before .before .clear .ensures) _ (c .before .before .before .before .for-guard .ensures) _ (c .before .before .before .add .ensures) _ (c .issued .ensures)
+
+pub request-guard-spec : {M : Type 1} → statement M
+request-guard-spec =
+    tie.close
+    (tie.spec
+    refuse-requires
+    returns
+    cast-low
+    cast-high
+    refuse-requires-2
+    returns-2
+    refuse-requires-3
+    returns-3
+    add-all-are
+    add-all-are-2
+    all-are-requires
+    refuse-requires-4
+    same-length
+    returns-4
+    sub-scan-requests
+    part-scan-requests-start
+    part-scan-requests-end
+    scan-requests-requires
+    refuse-requires-5
+    same-length-2
+    returns-5
+    refuse-requires-6
+    same-length-3
+    returns-6
+    slice-read-last
+    refuse-requires-7
+    same-length-4
+    returns-7
+    mul-i
+    add-clear
+    add-clear-2
+    clear-requires
+    add-for-guard
+    for-guard-requires
+    add-requires
+    add-issued
+    issued-requires
+    same-length-5
+    returns-8)

@@ -1,0 +1,174 @@
+// Steps 3, 4 and 5: requests that are issued. The length of the players' table is known; its rules are not tested.
+use crate::cells;
+use crate::issued;
+use crate::refuse;
+use requests::Request;
+use requests::region;
+use store::Range;
+use store::Reply;
+ghost use mathlib.Core.Path.{_≡_};
+ghost use lib.ListN.{length};
+ghost use mathlib.Core.Bool.{false};
+ghost use Rattle.requests.specs.Model.{new-request};
+ghost use Rattle.players.specs.declared.Step.the-variants.{Read, RequestGuard, Write};
+ghost use Rattle.players.specs.Rules.{step};
+ghost use Rattle.steps.specs.Calls.{Moves, added};
+
+// Adds a request at place `k`, the first that is not used; its serial is the last one issued.
+fn add(players: &mut [u32], k: usize, r: Request)
+    requires { ⌜ length (now players) ≡ 9473 ⌝ }
+    ensures { λ _. ⌜ now (players .exit) ≡ added k r (now (players .entry)) ⌝ }
+{
+    players[0] = r.serial;
+    region::put(&mut players[8705..9473], k, r);
+}
+
+// A request for a guard.
+fn for_guard(serial: u32, player: u8, range: Range) -> Request
+    ensures { λ r. ⌜ r ≡ new-request serial player 3 (range .low) (range .high) 0 0 false ⌝ }
+{
+    Request {
+        serial,
+        player,
+        kind: 3,
+        low: range.low,
+        high: range.high,
+        value: 0,
+        guard: 0,
+        overlapped: false,
+        delivered: false,
+        abandoned: false,
+        first: 0,
+        second: 0,
+    }
+}
+
+// A read (kind 4) or a write (kind 5) of an entry.
+fn for_entry(
+    serial: u32,
+    player: u8,
+    kind: u8,
+    entry: u8,
+    value: u32,
+    guard: u32,
+    overlapped: bool,
+) -> Request
+    ensures { λ r. ⌜ r ≡ new-request serial player kind entry 0 value guard overlapped ⌝ }
+{
+    Request {
+        serial,
+        player,
+        kind,
+        low: entry,
+        high: 0,
+        value,
+        guard,
+        overlapped,
+        delivered: false,
+        abandoned: false,
+        first: 0,
+        second: 0,
+    }
+}
+
+// Step 3: the player must own every entry of the range, and its guards there are cleared.
+pub(crate) fn request_guard(players: &mut [u32], player: u8, range: Range) -> Reply
+    requires { ⌜ length (now players) ≡ 9473 ⌝ }
+    ensures { λ r. ⌜ Moves (λ s. step s (RequestGuard player range)) (now (players .entry)) r (now (players .exit)) ⌝ }
+{
+    if player > 7 {
+        return refuse(28);
+    }
+    let low = range.low as usize;
+    let high = range.high as usize;
+    if low >= high {
+        return refuse(28);
+    }
+    if high > 256 {
+        return refuse(28);
+    }
+    if !cells::all_are(players, 1 + low, 1 + high, player as u32) {
+        return refuse(29);
+    }
+    let scan = region::scan_requests(&players[8705..9473], player, range);
+    if scan.hit {
+        return refuse(31);
+    }
+    if scan.used >= 64 {
+        return refuse(33);
+    }
+    let last = players[0];
+    if last >= 4_000_000 {
+        return refuse(34);
+    }
+    let i = player as usize * 256;
+    cells::clear(players, i + low, i + high);
+    add(players, scan.used, for_guard(last + 1, player, range));
+    issued(last + 1)
+}
+
+// Step 4: from the cache if it holds a live value, else a request.
+pub(crate) fn read(players: &mut [u32], player: u8, entry: u8) -> Reply
+    requires { ⌜ length (now players) ≡ 9473 ⌝ }
+    ensures { λ r. ⌜ Moves (λ s. step s (Read player entry)) (now (players .entry)) r (now (players .exit)) ⌝ }
+{
+    if player > 7 {
+        return refuse(28);
+    }
+    let i = player as usize * 256 + entry as usize;
+    if cells::is_hit(players, player, entry) {
+        return Reply {
+            code: 2,
+            a: players[4609 + i],
+            b: players[6657 + i],
+        };
+    }
+    if region::is_full(&players[8705..9473]) {
+        return refuse(33);
+    }
+    let last = players[0];
+    if last >= 4_000_000 {
+        return refuse(34);
+    }
+    let guard = cells::live_guard(players, player, entry);
+    let scan = region::scan_writes(&players[8705..9473], player, entry);
+    add(
+        players,
+        scan.used,
+        for_entry(last + 1, player, 4, entry, 0, guard, scan.hit),
+    );
+    issued(last + 1)
+}
+
+// Step 5: needs ownership and a live guard, which the request carries.
+pub(crate) fn write(players: &mut [u32], player: u8, entry: u8, value: u32) -> Reply
+    requires { ⌜ length (now players) ≡ 9473 ⌝ }
+    ensures { λ r. ⌜ Moves (λ s. step s (Write player entry value)) (now (players .entry)) r (now (players .exit)) ⌝ }
+{
+    if player > 7 {
+        return refuse(28);
+    }
+    let e = entry as usize;
+    if players[1 + e] != player as u32 {
+        return refuse(29);
+    }
+    let guard = cells::live_guard(players, player, entry);
+    if guard == 0 {
+        return refuse(30);
+    }
+    if region::is_full(&players[8705..9473]) {
+        return refuse(33);
+    }
+    let last = players[0];
+    if last >= 4_000_000 {
+        return refuse(34);
+    }
+    cells::cache(players, player as usize * 256 + e, 0, 0, 0);
+    let scan = region::cross(&mut players[8705..9473], player, entry);
+    add(
+        players,
+        scan.used,
+        for_entry(last + 1, player, 5, entry, value, guard, scan.hit),
+    );
+    issued(last + 1)
+}

@@ -1,0 +1,77 @@
+// Steps 8, 9 and 13: requests that are given up, or lost. The length of the players' table is known; its rules are not tested.
+use crate::cells;
+use crate::refuse;
+use requests::Found;
+use requests::region;
+use store::Reply;
+ghost use mathlib.Core.Path.{_≡_};
+ghost use lib.ListN.{length};
+ghost use Rattle.players.specs.declared.Step.the-variants.{Abandon, Lose, RestartPlayer};
+ghost use Rattle.players.specs.Rules.{step};
+ghost use Rattle.steps.specs.Calls.{Moves, giving-up};
+
+// The request of place `k` leaves if it is delivered, and is abandoned if not.
+fn give_up(players: &mut [u32], k: usize, delivered: bool)
+    requires { ⌜ length (now players) ≡ 9473 ⌝ }
+    ensures { λ _. ⌜ now (players .exit) ≡ giving-up k delivered (now (players .entry)) ⌝ }
+{
+    if delivered {
+        region::remove(&mut players[8705..9473], k);
+        return;
+    }
+    region::abandon(&mut players[8705..9473], k);
+}
+
+// Step 8: a delivered request leaves, another is marked; the guard that a write carries is dropped.
+pub(crate) fn abandon(players: &mut [u32], serial: u32) -> Reply
+    requires { ⌜ length (now players) ≡ 9473 ⌝ }
+    ensures { λ r. ⌜ Moves (λ s. step s (Abandon serial)) (now (players .entry)) r (now (players .exit)) ⌝ }
+{
+    let found = region::find(&players[8705..9473], serial);
+    match found {
+        Found::Nowhere => refuse(32),
+        Found::At { place, request } => {
+            if request.abandoned {
+                return refuse(32);
+            }
+            give_up(players, place, request.delivered);
+            if request.kind != 5 {
+                return refuse(0);
+            }
+            cells::drop_guard(players, request.player, request.guard);
+            refuse(0)
+        }
+    }
+}
+
+// Step 9: an abandoned request leaves.
+pub(crate) fn lose(players: &mut [u32], serial: u32) -> Reply
+    requires { ⌜ length (now players) ≡ 9473 ⌝ }
+    ensures { λ r. ⌜ Moves (λ s. step s (Lose serial)) (now (players .entry)) r (now (players .exit)) ⌝ }
+{
+    let found = region::find(&players[8705..9473], serial);
+    match found {
+        Found::Nowhere => refuse(32),
+        Found::At { place, request } => {
+            if !request.abandoned {
+                return refuse(32);
+            }
+            region::remove(&mut players[8705..9473], place);
+            refuse(0)
+        }
+    }
+}
+
+// Step 13: the player's guards are cleared, each with what is cached under it, and its pending requests are given up.
+pub(crate) fn restart_player(players: &mut [u32], player: u8) -> Reply
+    requires { ⌜ length (now players) ≡ 9473 ⌝ }
+    ensures { λ r. ⌜ Moves (λ s. step s (RestartPlayer player)) (now (players .entry)) r (now (players .exit)) ⌝ }
+{
+    if player > 7 {
+        return refuse(28);
+    }
+    let i = player as usize * 256;
+    cells::clear(players, i, i + 256);
+    region::restart(&mut players[8705..9473], player);
+    refuse(0)
+}
