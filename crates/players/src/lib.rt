@@ -1,5 +1,13 @@
-// The players: the steps that a session takes, and the requests in flight between the players and the store.
+// The players: ownership, held guards, cached values and requests in flight, in one lent table of 9,473 words beside the store's.
+// Each call tests the two tables' lengths (21) and their rules (22) first.
+mod initial;
+mod rules;
+
 use store::Range;
+use store::Reply;
+ghost use mathlib.Core.Path.{_≡_};
+ghost use Rattle.players.specs.Calls.{left, whole, checked, made-fresh};
+ghost use Rattle.players.specs.Replies.{refusal};
 
 // A step: its kind, with that kind's fields. The number of each kind, and the document's word where it has one of its own, stand beside it.
 pub enum Step {
@@ -16,4 +24,49 @@ pub enum Step {
     Merge { entry: u8 }, // 11
     RestartTablet { entry: u8 }, // 12
     RestartPlayer { player: u8 }, // 13
+}
+
+// A reply that is a code alone: a refusal, or 0 for done.
+fn refuse(code: u32) -> Reply
+    ensures { λ r. ⌜ r ≡ refusal code ⌝ }
+{
+    Reply { code, a: 0, b: 0 }
+}
+
+// Whether both tables have their lengths.
+fn whole(store: &[u32], players: &[u32]) -> bool
+    ensures { λ r. ⌜ r ≡ whole (now (store .entry)) (now (players .entry)) ⌝ }
+{
+    if store.len() != 1280 {
+        return false;
+    }
+    players.len() == 9473
+}
+
+// Makes both tables fresh.
+pub fn fresh(store: &mut [u32], players: &mut [u32]) -> Reply
+    ensures { λ r. ⌜ left r (now (store .exit)) (now (players .exit)) ≡ made-fresh (now (store .entry)) (now (players .entry)) ⌝ }
+{
+    if whole(store, players) {
+        initial::lay_players(players);
+        return store::fresh(store);
+    }
+    refuse(21)
+}
+
+// Whether both tables keep the rules.
+pub fn check(store: &[u32], players: &[u32]) -> Reply
+    ensures { λ r. ⌜ r ≡ checked (now (store .entry)) (now (players .entry)) ⌝ }
+{
+    if !whole(store, players) {
+        return refuse(21);
+    }
+    let tested = store::check_at(store, players[0]);
+    if tested.code != 0 {
+        return refuse(22);
+    }
+    if !rules::players_hold(players) {
+        return refuse(22);
+    }
+    refuse(0)
 }

@@ -1,4 +1,9 @@
-// The requests in flight between the players and the store.
+// The requests in flight between the players and the store: 64 places of 12 words, as specs/Region.antt lays them out.
+pub mod lent;
+mod places;
+pub mod region;
+mod rules;
+mod tests;
 
 // A request in flight (document: row). Fields that its kind lacks are 0, and so is the outcome before delivery.
 pub struct Request {
@@ -20,4 +25,16 @@ pub struct Request {
     // the outcome: 1 or 2 and 0, for a read the version and value
     pub first: u32,
     pub second: u32,
+}
+
+// The request that a search gives, and its place.
+pub enum Found {
+    At { place: usize, request: Request },
+    Nowhere,
+}
+
+// What a pass over the requests tells: how many there are, and whether one is of the kind that is looked for.
+pub struct Scan {
+    pub used: usize,
+    pub hit: bool,
 }

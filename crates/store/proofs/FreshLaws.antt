@@ -1,13 +1,16 @@
 -- The stores of `copy` and `lay_store`: they make the table of a fresh store.
 -- Assumes nothing.
 use mathlib.Core.Path.{_≡_, refl, sym, ap, _∙_}
+use mathlib.Core.Bool.{cond}
 use mathlib.Core.List.{List, _++_, append-assoc}
 use Prim.Native.Nat.{ℕ, zero, suc, _+_, _≤_, _<_}
 use native.Mathlib.Omega.{arith}
 use native.Mathlib.Nat.{zero-add, suc-add}
 use native.Mathlib.Numerals.{add-one}
+use lib.Dec.{eqb}
 use lib.ListN.{length, getD, take, drop, set, replicate, length-append, length-replicate}
 use lib.Seq.{take-suc, take-suc-set, take-all, take-at, length-take-le}
+use borrow.Author.Tests.{eq-eqb}
 use borrow.Rule.Slice.PartMut.{putMid}
 use Rattle.store.specs.Model.{fresh}
 use Rattle.store.specs.Table.{listed, runs, coded, tableOf}
@@ -20,6 +23,10 @@ module _ (p f : List ℕ) (i : ℕ) (e : length p ≡ length f) (q : take i p �
 
   pub copy-end : length p ≤ i → p ≡ f
   copy-end h = sym (take-all i p h) ∙ q ∙ take-all i f (omega arith)
+
+-- a list that is as long as another, after the other is copied over it
+pub copied : (q p f : List ℕ) → length p ≡ length f → q ≡ cond (eqb (length p) (length f)) f p → q ≡ f
+copied q p f e r = rw (eq-eqb (length p) (length f) e) at r
 
 -- ---- `lay_store`: one column more is laid, and all are
 

@@ -1,20 +1,9 @@
 // The table of a fresh store.
+use crate::words;
 ghost use mathlib.Core.Path.{_≡_};
 ghost use lib.ListN.{length, replicate};
 ghost use Rattle.store.specs.Model.{fresh};
 ghost use Rattle.store.specs.Table.{tableOf};
-
-// Writes all of `from` over `part`.
-fn copy(part: &mut [u32], from: &[u32])
-    requires { ⌜ length (now part) ≡ length (now from) ⌝ }
-    ensures { λ _. ⌜ now (part .exit) ≡ now (from .entry) ⌝ }
-{
-    let mut i = 0;
-    while i < part.len() {
-        part[i] = from[i];
-        i += 1;
-    }
-}
 
 // A column of 256 zeros.
 fn lay_zeros(part: &mut [u32])
@@ -22,7 +11,7 @@ fn lay_zeros(part: &mut [u32])
     ensures { λ _. ⌜ now (part .exit) ≡ replicate 256 0 ⌝ }
 {
     let zeros = [0u32; 256];
-    copy(part, &zeros);
+    words::copy(part, &zeros);
 }
 
 // One tablet, and zeros in all five columns elsewhere: guard 0 everywhere is one interval, from entry 0 on.

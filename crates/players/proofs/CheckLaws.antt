@@ -1,0 +1,181 @@
+-- What the tests of `check` come to, case by case: small tests on numbers, and what one turn of a loop does to the rest of a list.
+-- Assumes nothing.
+use mathlib.Core.Path.{_≡_, refl, sym, ap, _∙_}
+use mathlib.Core.Logic.{⊎-elim}
+use mathlib.Core.Bool.{Bool, true, false, cond, _&&_}
+use mathlib.Core.List.{List, _∷_}
+use Prim.Native.Nat.{ℕ, _+_, _≤_, _<_}
+use native.Mathlib.Omega.{arith}
+use native.Mathlib.Numerals.{add-one}
+use lib.Dec.{leb, eqb}
+use lib.ListN.{length, getD, take, drop, drop-of-length-le, length-drop}
+use lib.Seq.{drop-cons, getD-take, getD-drop, length-take-le}
+use borrow.Author.Tests.{eq-eqb, ne-eqb, le-leb, lt-leb, eqb-true}
+use Rattle.store.specs.Model.{fresh as fresh-store}
+use Rattle.store.specs.Table.{at-most, tableOf as store-table, valid as valid-store}
+use Rattle.store.specs.Calls.{said, checked as checked-store, done as stored-as, Done as StoreDone, made-fresh as store-made}
+use Rattle.store.specs.declared.Reply.{Reply}
+use Rattle.requests.specs.Region.{valid as valid-requests}
+use Rattle.requests.proofs.Basics.{decide, both-left, both-right, cond-elim}
+use Rattle.players.specs.Replies.{refusal}
+use Rattle.players.specs.Rules.{fresh}
+use Rattle.players.specs.Calls.{left, whole, checked, made-fresh}
+use Rattle.players.specs.Table.{region, tableOf, valid-players, valid, cached-holds, cached-all}
+
+-- ---- cached values
+
+module _ (n g v x : ℕ) where
+  pub value-guard : n < g → false ≡ cached-holds n g v x
+  unfolding cached-holds
+  value-guard h = rw (lt-leb g n h)
+
+  pub value-version : g ≤ n → n < v → false ≡ cached-holds n g v x
+  unfolding cached-holds
+  value-version h k = rw (le-leb g n h, lt-leb v n k)
+
+  pub value-full : g ≤ n → v ≤ n → (g ≡ 0 → ⊥) → true ≡ cached-holds n g v x
+  unfolding cached-holds
+  value-full h k z = rw (le-leb g n h, le-leb v n k, ne-eqb g 0 z)
+
+  pub value-empty : g ≤ n → v ≤ n → g ≡ 0 → (v ≡ 0 → ⊥) → false ≡ cached-holds n g v x
+  unfolding cached-holds
+  value-empty h k z y = rw (le-leb g n h, le-leb v n k, eq-eqb g 0 z, ne-eqb v 0 y)
+
+  pub value-rest : g ≤ n → v ≤ n → g ≡ 0 → v ≡ 0 → eqb x 0 ≡ cached-holds n g v x
+  unfolding cached-holds
+  value-rest h k z y = rw (le-leb g n h, le-leb v n k, eq-eqb g 0 z, eq-eqb v 0 y)
+
+drop-next : (l : List ℕ) (i : ℕ) → i < length l → drop i l ≡ getD l i 0 ∷ drop (i + 1) l
+drop-next l i h = rw (add-one, drop-cons l i 0)
+
+module _ (n : ℕ) (t : List ℕ) (l : length t ≡ 9473) (i : ℕ) where
+  -- a column of 2,048 words
+  abbrev pub column : ℕ → List ℕ
+  column b = take 2048 (drop b t)
+
+  length-column : (b : ℕ) → b + 2048 ≤ 9473 → length (column b) ≡ 2048
+  length-column b h = length-take-le 2048 (drop b t) (rw length-drop (omega arith))
+
+  column-at : (b : ℕ) → i < 2048 → getD (column b) i 0 ≡ getD t (b + i) 0
+  column-at b h = getD-take 2048 (drop b t) i 0 h ∙ getD-drop b t i 0
+
+  abbrev pub rest-holds : ℕ → Bool
+  rest-holds j = cached-all n (drop j (column 2561)) (drop j (column 4609)) (drop j (column 6657))
+
+  rest-is : i < 2048 → rest-holds i ≡ (cached-holds n (getD t (2561 + i) 0) (getD t (4609 + i) 0) (getD t (6657 + i) 0) && rest-holds (i + 1))
+  unfolding cached-all
+  rest-is h =
+      rw (
+        drop-next (column 2561) i (rw (length-column 2561 (omega arith)) h),
+        drop-next (column 4609) i (rw (length-column 4609 (omega arith)) h),
+        drop-next (column 6657) i (rw (length-column 6657 (omega arith)) h),
+        column-at 2561 h,
+        column-at 4609 h,
+        column-at 6657 h,
+      )
+
+  pub values-stop : i < 2048 → cached-holds n (getD t (2561 + i) 0) (getD t (4609 + i) 0) (getD t (6657 + i) 0) ≡ false → rest-holds i ≡ false
+  values-stop h z = rest-is h ∙ rw z
+
+  pub values-more : i < 2048 → cached-holds n (getD t (2561 + i) 0) (getD t (4609 + i) 0) (getD t (6657 + i) 0) ≡ true → rest-holds i ≡ rest-holds (i + 1)
+  values-more h z = rest-is h ∙ rw z
+
+  pub values-end : 2048 ≤ i → rest-holds i ≡ true
+  unfolding cached-all
+  values-end h =
+      let k : length (column 2561) ≤ i = rw (length-column 2561 (omega arith)) h in
+      rw (drop-of-length-le (column 2561) k)
+
+-- ---- the table
+
+module _ (t : List ℕ) where
+  table-is :
+      valid-players t
+      ≡ (leb (getD t 0 0) 4000000
+      && (at-most 8 (take 256 (drop 1 t))
+      && (at-most (getD t 0 0) (take 256 (drop 257 t))
+      && (at-most (getD t 0 0) (take 2048 (drop 513 t))
+      && (cached-all (getD t 0 0) (take 2048 (drop 2561 t)) (take 2048 (drop 4609 t)) (take 2048 (drop 6657 t))
+      && valid-requests (getD t 0 0) (take 768 (drop 8705 t)))))))
+  unfolding valid-players region
+  table-is = refl
+
+  pub table-last : 4000000 < getD t 0 0 → false ≡ valid-players t
+  table-last h = rw (table-is, lt-leb (getD t 0 0) 4000000 h)
+
+  module _ (h : getD t 0 0 ≤ 4000000) where
+    pub table-owners : at-most 8 (take 256 (drop 1 t)) ≡ false → false ≡ valid-players t
+    table-owners o = rw (table-is, le-leb (getD t 0 0) 4000000 h, o)
+
+    module _ (o : at-most 8 (take 256 (drop 1 t)) ≡ true) where
+      pub table-epochs : at-most (getD t 0 0) (take 256 (drop 257 t)) ≡ false → false ≡ valid-players t
+      table-epochs e = rw (table-is, le-leb (getD t 0 0) 4000000 h, o, e)
+
+      module _ (e : at-most (getD t 0 0) (take 256 (drop 257 t)) ≡ true) where
+        pub table-held : at-most (getD t 0 0) (take 2048 (drop 513 t)) ≡ false → false ≡ valid-players t
+        table-held g = rw (table-is, le-leb (getD t 0 0) 4000000 h, o, e, g)
+
+        module _ (g : at-most (getD t 0 0) (take 2048 (drop 513 t)) ≡ true) where
+          abbrev values : Bool
+          values = cached-all (getD t 0 0) (take 2048 (drop 2561 t)) (take 2048 (drop 4609 t)) (take 2048 (drop 6657 t))
+
+          pub table-values : values ≡ false → false ≡ valid-players t
+          table-values v = rw (table-is, le-leb (getD t 0 0) 4000000 h, o, e, g, v)
+
+          pub table-rest : (b : Bool) → values ≡ true → b ≡ valid-requests (getD t 0 0) (take 768 (drop 8705 t)) → b ≡ valid-players t
+          table-rest b v r = rw (table-is, le-leb (getD t 0 0) 4000000 h, o, e, g, v) r
+
+-- ---- both tables
+
+module _ (st t : List ℕ) where
+  pub store-short : (length st ≡ 1280 → ⊥) → false ≡ whole st t
+  store-short h = rw (ne-eqb (length st) 1280 h)
+
+  pub players-length : length st ≡ 1280 → eqb (length t) 9473 ≡ whole st t
+  players-length h = rw (eq-eqb (length st) 1280 h)
+
+module _ (st t : List ℕ) (w : whole st t ≡ true) where
+  pub store-long : length st ≡ 1280
+  store-long = eqb-true (length st) 1280 (both-left (eqb (length st) 1280) (eqb (length t) 9473) w)
+
+  pub players-long : length t ≡ 9473
+  players-long = eqb-true (length t) 9473 (both-right (eqb (length st) 1280) (eqb (length t) 9473) w)
+
+  -- the store's test, and then the players'
+  module _ (r : Reply) (e : r ≡ checked-store (getD t 0 0) st) where
+    tested : r .code ≡ cond (valid-store (getD t 0 0) st) 0 22
+    tested =
+        ap (λ (x : Reply). x .code) e
+        ∙ rw (eq-eqb (length st) 1280 store-long) (cond-elim (λ (x : Reply). x .code ≡ cond (valid-store (getD t 0 0) st) 0 22) (valid-store (getD t 0 0) st) (said 0 0 0) (said 22 0 0) (λ b. rw b) (λ b. rw b))
+
+    stored-not : (r .code ≡ 0 → ⊥) → valid-store (getD t 0 0) st ≡ false
+    stored-not z = ⊎-elim (λ b. absurd (z (tested ∙ ap (λ (x : Bool). cond x 0 22) b))) (λ b. b) (decide (valid-store (getD t 0 0) st))
+
+    pub check-store : (r .code ≡ 0 → ⊥) → refusal 22 ≡ checked st t
+    unfolding valid
+    check-store z = rw (w, stored-not z)
+
+    module _ (z : r .code ≡ 0) where
+      stored : valid-store (getD t 0 0) st ≡ true
+      stored = ⊎-elim (λ b. b) (λ b. absurd (omega (arith, sym z ∙ tested ∙ ap (λ (x : Bool). cond x 0 22) b))) (decide (valid-store (getD t 0 0) st))
+
+      pub check-players : valid-players t ≡ false → refusal 22 ≡ checked st t
+      unfolding valid
+      check-players v = rw (w, stored, v)
+
+      pub check-good : valid-players t ≡ true → refusal 0 ≡ checked st t
+      unfolding valid
+      check-good v = rw (w, stored, v)
+
+  -- the store made fresh, and the players
+  pub fresh-both : (r : Reply) (st′ t′ : List ℕ) → stored-as r st′ ≡ store-made st → t′ ≡ tableOf fresh → left r st′ t′ ≡ made-fresh st t
+  fresh-both r st′ t′ e f =
+      let x : stored-as r st′ ≡ stored-as (said 0 0 0) (store-table fresh-store) = e ∙ rw (eq-eqb (length st) 1280 store-long) in
+      rw (w, ap (λ (d : StoreDone). d .reply) x, ap (λ (d : StoreDone). d .table) x, f)
+
+module _ (st t : List ℕ) (w : whole st t ≡ false) (r : Reply) (e : r ≡ refusal 21) where
+  pub check-short : r ≡ checked st t
+  check-short = e ∙ rw w
+
+  pub fresh-short : left r st t ≡ made-fresh st t
+  fresh-short = rw (e, w)

@@ -1,0 +1,7 @@
+-- Laws that the functions' proofs, and those of the crates above, cite.
+pub mod Regions
+pub mod Tables
+pub mod FreshLaws
+pub mod CheckLaws
+pub mod Kept
+pub mod CallLaws

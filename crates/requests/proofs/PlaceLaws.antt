@@ -1,0 +1,142 @@
+-- The places of a region: what is read of one, the tests of its words, and a walk over all, a case for each way that the code goes.
+-- Assumes nothing.
+use mathlib.Core.Path.{_≡_, ap, _∙_}
+use mathlib.Core.Bool.{Bool, true, false, _&&_}
+use mathlib.Core.List.{List}
+use Prim.Native.Nat.{ℕ, suc, _+_, _-_, _*_, _%_, _≤_, _<_}
+use native.Mathlib.Nat.{add-zero}
+use native.Mathlib.Omega.{arith}
+use lib.Dec.{leb, ltb, eqb}
+use lib.ListN.{length, getD, drop}
+use lib.Seq.{getD-drop, drop-drop}
+use borrow.Author.Tests.{eq-eqb, ne-eqb, le-leb, lt-leb, lt-ltb, le-ltb}
+use Rattle.store.specs.Table.{at-most}
+use Rattle.requests.specs.Region.{requestOf, requestAt, request-holds, words-fit, places-hold, valid}
+
+module _ (w : List ℕ) (k : ℕ) where
+  -- word i of place k
+  abbrev word : ℕ → ℕ
+  word i = getD w (k * 12 + i) 0
+
+  -- what is read, word by word
+  pub read-place : (player kind low high : ℕ) (overlapped delivered abandoned : Bool)
+      → player ≡ word 1 % 8 → kind ≡ word 2 % 256 → low ≡ word 3 % 256 → high ≡ word 4 % 65536
+      → overlapped ≡ eqb (word 7) 1 → delivered ≡ eqb (word 8) 1 → abandoned ≡ eqb (word 9) 1
+      → record {
+        serial = getD w (k * 12) 0;
+        player = player;
+        kind = kind;
+        low = low;
+        high = high;
+        value = word 5;
+        guard = word 6;
+        overlapped = overlapped;
+        delivered = delivered;
+        abandoned = abandoned;
+        first = word 10;
+        second = word 11;
+      } ≡ requestAt w k
+  unfolding requestOf
+  read-place _ _ _ _ _ _ _ e₁ e₂ e₃ e₄ e₇ e₈ e₉ = rw (e₁, e₂, e₃, e₄, e₇, e₈, e₉) (simp (getD-drop, add-zero))
+
+  -- ---- the words fit
+
+  abbrev fit : Bool
+  fit = words-fit (drop (k * 12) w)
+
+  at : (i : ℕ) → getD (drop (k * 12) w) i 0 ≡ word i
+  at i = getD-drop (k * 12) w i 0
+
+  pub unfit-player : 7 < word 1 → false ≡ fit
+  unfolding words-fit
+  unfit-player h = rw (at 1, lt-leb (word 1) 7 h)
+
+  module _ (h₁ : word 1 ≤ 7) where
+    pub unfit-kind : 255 < word 2 → false ≡ fit
+    unfolding words-fit
+    unfit-kind h = rw (at 1, at 2, le-leb (word 1) 7 h₁, lt-leb (word 2) 255 h)
+
+    module _ (h₂ : word 2 ≤ 255) where
+      pub unfit-low : 255 < word 3 → false ≡ fit
+      unfolding words-fit
+      unfit-low h = rw (at 1, at 2, at 3, le-leb (word 1) 7 h₁, le-leb (word 2) 255 h₂, lt-leb (word 3) 255 h)
+
+      module _ (h₃ : word 3 ≤ 255) where
+        pub unfit-high : 65535 < word 4 → false ≡ fit
+        unfolding words-fit
+        unfit-high h = rw (at 1, at 2, at 3, at 4, le-leb (word 1) 7 h₁, le-leb (word 2) 255 h₂, le-leb (word 3) 255 h₃, lt-leb (word 4) 65535 h)
+
+        module _ (h₄ : word 4 ≤ 65535) where
+          pub unfit-overlapped : 1 < word 7 → false ≡ fit
+          unfolding words-fit
+          unfit-overlapped h = rw (at 1, at 2, at 3, at 4, at 7, le-leb (word 1) 7 h₁, le-leb (word 2) 255 h₂, le-leb (word 3) 255 h₃, le-leb (word 4) 65535 h₄, lt-leb (word 7) 1 h)
+
+          module _ (h₇ : word 7 ≤ 1) where
+            pub unfit-delivered : 1 < word 8 → false ≡ fit
+            unfolding words-fit
+            unfit-delivered h =
+                rw (at 1, at 2, at 3, at 4, at 7, at 8, le-leb (word 1) 7 h₁, le-leb (word 2) 255 h₂, le-leb (word 3) 255 h₃, le-leb (word 4) 65535 h₄, le-leb (word 7) 1 h₇, lt-leb (word 8) 1 h)
+
+            pub fit-abandoned : word 8 ≤ 1 → leb (word 9) 1 ≡ fit
+            unfolding words-fit
+            fit-abandoned h₈ =
+                rw (at 1, at 2, at 3, at 4, at 7, at 8, at 9, le-leb (word 1) 7 h₁, le-leb (word 2) 255 h₂, le-leb (word 3) 255 h₃, le-leb (word 4) 65535 h₄, le-leb (word 7) 1 h₇, le-leb (word 8) 1 h₈)
+
+-- ---- the walk
+
+-- place k on, after a request with the serial p; n is the last serial issued
+module _ (w : List ℕ) (n p k : ℕ) where
+  abbrev rest : Bool
+  rest = places-hold n p (64 - k) (drop (k * 12) w)
+
+  abbrev serial : ℕ
+  serial = getD w (k * 12) 0
+
+  first : getD (drop (k * 12) w) 0 0 ≡ serial
+  first = getD-drop (k * 12) w 0 0 ∙ ap (λ (i : ℕ). getD w i 0) (add-zero (k * 12))
+
+  pub walk-end : 64 ≤ k → rest ≡ true
+  unfolding places-hold
+  walk-end h =
+      let x : 64 - k ≡ 0 = omega arith in
+      ap (λ (j : ℕ). places-hold n p j (drop (k * 12) w)) x
+
+  module _ (h : k < 64) where
+    one : 64 - k ≡ suc (64 - (k + 1))
+    one = omega arith
+
+    pub walk-unused : serial ≡ 0 → rest ≡ at-most 0 (drop (k * 12) w)
+    unfolding places-hold
+    walk-unused z = ap (λ (j : ℕ). places-hold n p j (drop (k * 12) w)) one ∙ rw (first, eq-eqb serial 0 z)
+
+    module _ (z : serial ≡ 0 → ⊥) where
+      used : rest ≡ (ltb p serial && (words-fit (drop (k * 12) w) && (request-holds n (requestAt w k) && places-hold n serial (64 - (k + 1)) (drop ((k + 1) * 12) w))))
+      unfolding places-hold
+      used =
+          let x : k * 12 + 12 ≡ (k + 1) * 12 = omega arith in
+          ap (λ (j : ℕ). places-hold n p j (drop (k * 12) w)) one ∙ rw (first, ne-eqb serial 0 z, drop-drop 12 (k * 12) w, x)
+
+      pub walk-low : serial ≤ p → rest ≡ false
+      walk-low y = used ∙ rw (le-ltb p serial y)
+
+      module _ (y : p < serial) where
+        pub walk-unfit : words-fit (drop (k * 12) w) ≡ false → rest ≡ false
+        walk-unfit f = used ∙ rw (lt-ltb p serial y, f)
+
+        module _ (f : words-fit (drop (k * 12) w) ≡ true) where
+          pub walk-bad : request-holds n (requestAt w k) ≡ false → rest ≡ false
+          walk-bad q = used ∙ rw (lt-ltb p serial y, f, q)
+
+          pub walk-on : request-holds n (requestAt w k) ≡ true → rest ≡ places-hold n serial (64 - (k + 1)) (drop ((k + 1) * 12) w)
+          walk-on q = used ∙ rw (lt-ltb p serial y, f, q)
+
+-- ---- the region
+
+module _ (w : List ℕ) (n : ℕ) where
+  pub other-length : (length w ≡ 768 → ⊥) → false ≡ valid n w
+  unfolding valid
+  other-length h = rw (ne-eqb (length w) 768 h)
+
+  pub right-length : (b : Bool) → length w ≡ 768 → b ≡ places-hold n 0 64 w → b ≡ valid n w
+  unfolding valid
+  right-length b h e = rw (eq-eqb (length w) 768 h) e

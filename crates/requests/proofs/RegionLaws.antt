@@ -1,0 +1,319 @@
+-- A region that holds a list of requests: what each call tells of the list, and what it does to it.
+-- Assumes nothing.
+use mathlib.Core.Path.{_≡_, refl, sym, ap, _∙_}
+use mathlib.Core.Logic.{⊎-elim}
+use mathlib.Core.Bool.{Bool, true, false, cond, _&&_}
+use mathlib.Core.List.{List, [], _∷_, _++_, map}
+use Prim.Native.Nat.{ℕ, zero, suc, _+_, _-_, _*_, _≤_, _<_}
+use native.Mathlib.Nat.{add-zero, zero-add, sub-zero, not-suc-le-zero, le-of-suc-le-suc}
+use native.Mathlib.Omega.{arith}
+use lib.Dec.{leb, eqb}
+use lib.ListN.{length, getD, take, drop, set, replicate, getD-replicate, length-replicate, length-map, replicate-append-replicate}
+use lib.Seq.{take-append-add, drop-append-add, drop-at, getD-append-add}
+use borrow.Author.Tests.{eq-eqb, ne-eqb, lt-ltb, leb-true, leb-false, eqb-true}
+use Rattle.requests.specs.declared.Request.{Request}
+use Rattle.requests.specs.declared.Found.the-variants.{At, Nowhere}
+use Rattle.requests.specs.Model.{places, by, serial-is, writing, using-entry, any, keep, find, drop-request, change-request, mark-overlapped, mark-abandoned, mark-delivered}
+use Rattle.requests.specs.Region.{wordsOf, placed, regionOf}
+use Rattle.requests.specs.Calls.{found-from, found, scanned, full, over, with-request, with-abandoned, with-delivered, closed, without, overlapped-from, crossing, crossed, remains, give-up, remaining, restarted}
+use Rattle.requests.proofs.Basics.{decide}
+use Rattle.requests.proofs.Rising.{Each, In, here, there, fewer-kept}
+use Rattle.requests.proofs.RequestRules.{request-fits}
+use Rattle.requests.proofs.WordLaws.{over-skip, over-front, drop-zeros, set-from, sets-from}
+use Rattle.requests.proofs.Placed.{Requests, request-back, length-placed, requests-region}
+
+-- ---- a request at its place
+
+-- r stands at place k
+pub data Stands (r : Request) : ℕ → List Request → Type 0 where
+  first : {rs : List Request} → Stands r 0 (r ∷ rs)
+  later : {k : ℕ} {q : Request} {rs : List Request} → Stands r k rs → Stands r (suc k) (q ∷ rs)
+
+pub stands-in : {r : Request} {k : ℕ} {rs : List Request} → Stands r k rs → In r rs
+stands-in first = here
+stands-in (later s) = there (stands-in s)
+
+pub stands-below : {r : Request} {k : ℕ} {rs : List Request} → Stands r k rs → k < length rs
+stands-below first = omega arith
+stands-below (later s) = let h = stands-below s in omega arith
+
+-- serials that rise
+module _ (Q : Request → Type 0) where
+  stands-above : {r : Request} {k : ℕ} {rs : List Request} (p : ℕ) → Each Q p rs → Stands r k rs → p < r .serial
+  stands-above p t first = t .0
+  stands-above p t (later {q = q} s) = let h = stands-above (q .serial) (t .2) s in let i = t .0 in omega arith
+
+  -- a serial that the list has passed
+  change-above : (f : Request → Request) (n p : ℕ) (rs : List Request) → n ≤ p → Each Q p rs → change-request n f rs ≡ rs
+  change-above f n p [] h t = refl
+  change-above f n p (r ∷ rs) h t =
+      rw (ne-eqb (r .serial) n (λ e. omega (arith, t .0)), change-above f n (r .serial) rs (omega (arith, t .0)) (t .2))
+
+  drop-above : (n p : ℕ) (rs : List Request) → n ≤ p → Each Q p rs → drop-request n rs ≡ rs
+  drop-above n p [] h t = refl
+  drop-above n p (r ∷ rs) h t =
+      rw (ne-eqb (r .serial) n (λ e. omega (arith, t .0)), drop-above n (r .serial) rs (omega (arith, t .0)) (t .2))
+
+  find-above : {A : Type 0} (f : Request → Bool) (n p : ℕ) (rs : List Request) (x : A) (go : Request → A) → n ≤ p → Each Q p rs → find (λ r. serial-is n r && f r) rs x go ≡ x
+  find-above f n p [] x go h t = refl
+  find-above f n p (r ∷ rs) x go h t =
+      rw (ne-eqb (r .serial) n (λ e. omega (arith, t .0))) (find-above f n (r .serial) rs x go (omega (arith, t .0)) (t .2))
+
+  -- the request that stands at a place is the one that its serial names
+  pub find-standing : {A : Type 0} {r : Request} {k : ℕ} {rs : List Request} (f : Request → Bool) (x : A) (go : Request → A) (p : ℕ) → Each Q p rs → Stands r k rs
+      → find (λ q. serial-is (r .serial) q && f q) rs x go ≡ cond (f r) (go r) x
+  find-standing {r = r} f x go p t (first {rs}) = rw (eq-eqb (r .serial) (r .serial) refl, find-above f (r .serial) (r .serial) rs x go (omega arith) (t .2))
+  find-standing {r = r} f x go p t (later {q = q} s) =
+      rw (ne-eqb (q .serial) (r .serial) (λ e. omega (arith, stands-above (q .serial) (t .2) s))) (find-standing f x go (q .serial) (t .2) s)
+
+-- ---- what a search finds
+
+-- the place that is found, where the list's first is at place i
+record Lies (n i k : ℕ) (r : Request) (rs : List Request) : Type 0 where
+  place : ℕ
+  counted : k ≡ i + place
+  stands : Stands r place rs
+  serial : r .serial ≡ n
+
+lies-cond : (n i k : ℕ) (r q : Request) (rs : List Request) (b : Bool) → serial-is n q ≡ b → At k r ≡ cond b (At i q) (found-from n (i + 1) rs)
+    → (At k r ≡ found-from n (i + 1) rs → Lies n (i + 1) k r rs) → Lies n i k r (q ∷ rs)
+lies-cond n i k r q rs true eb e g =
+    let z : k ≡ i = cc in
+    let y : r ≡ q = cc in
+    rw y (record { place = 0; counted = z ∙ sym (add-zero i); stands = first; serial = eqb-true (q .serial) n eb })
+lies-cond n i k r q rs false eb e g =
+    let l = g e in
+    record { place = suc (l .place); counted = let c = l .counted in omega arith; stands = later (l .stands); serial = l .serial }
+
+lies : (n i k : ℕ) (r : Request) (rs : List Request) → At k r ≡ found-from n i rs → Lies n i k r rs
+unfolding found-from
+lies n i k r [] e = let z : _≡_ {A = ℕ} 0 1 = cc in absurd (omega arith)
+lies n i k r (q ∷ rs) e = lies-cond n i k r q rs (serial-is n q) refl e (λ p. lies n (i + 1) k r rs p)
+
+nowhere-cond : {A : Type 0} (n i : ℕ) (f : Request → Bool) (r : Request) (rs : List Request) (x : A) (go : Request → A) (b : Bool)
+    → Nowhere ≡ cond b (At i r) (found-from n (i + 1) rs) → (Nowhere ≡ found-from n (i + 1) rs → find (λ r. serial-is n r && f r) rs x go ≡ x)
+    → cond (b && f r) (go r) (find (λ r. serial-is n r && f r) rs x go) ≡ x
+nowhere-cond n i f r rs x go true e g = let z : _≡_ {A = ℕ} 0 1 = cc in absurd (omega arith)
+nowhere-cond n i f r rs x go false e g = g e
+
+find-nowhere : {A : Type 0} (f : Request → Bool) (n i : ℕ) (rs : List Request) (x : A) (go : Request → A) → Nowhere ≡ found-from n i rs → find (λ r. serial-is n r && f r) rs x go ≡ x
+unfolding found-from
+find-nowhere f n i [] x go e = refl
+find-nowhere f n i (r ∷ rs) x go e = nowhere-cond n i f r rs x go (serial-is n r) e (λ p. find-nowhere f n (i + 1) rs x go p)
+
+-- ---- words of places
+
+module _ (Q : Request → Type 0) where
+  -- the words of one place changed: P does it to words of which the place's own stand first
+  change-placed : {r : Request} {k : ℕ} {rs : List Request} (m : ℕ) (f : Request → Request) (P : List ℕ → List ℕ) → ((x : List ℕ) → P (wordsOf r ++ x) ≡ wordsOf (f r) ++ x)
+      → (p : ℕ) → Each Q p rs → length rs ≤ m → Stands r k rs → take (k * 12) (placed m rs) ++ P (drop (k * 12) (placed m rs)) ≡ placed m (change-request (r .serial) f rs)
+  unfolding placed
+  change-placed zero f P e p t l first = absurd (not-suc-le-zero l)
+  change-placed {r = r} (suc m) f P e p t l (first {rs}) =
+      rw (eq-eqb (r .serial) (r .serial) refl, change-above Q f (r .serial) (r .serial) rs (omega arith) (t .2)) (e (placed m rs))
+  change-placed zero f P e p t l (later s) = absurd (not-suc-le-zero l)
+  change-placed {r = r} (suc m) f P e p t l (later {k} {q} {rs} s) =
+      let n : suc k * 12 ≡ length (wordsOf q) + k * 12 = omega arith in
+      rw (
+        n,
+        take-append-add (wordsOf q) (placed m rs) (k * 12),
+        drop-append-add (wordsOf q) (placed m rs) (k * 12),
+        ne-eqb (q .serial) (r .serial) (λ y. omega (arith, stands-above Q (q .serial) (t .2) s)),
+      )
+      (ap (λ (x : List ℕ). wordsOf q ++ x) (change-placed m f P e (q .serial) (t .2) (le-of-suc-le-suc l) s))
+
+  -- one place more
+  placed-more : (m : ℕ) (rs : List Request) → length rs ≤ m → placed m rs ++ replicate 12 0 ≡ placed (suc m) rs
+  unfolding placed
+  placed-more m [] l = let n : m * 12 + 12 ≡ suc m * 12 = omega arith in replicate-append-replicate {A = ℕ} (m * 12) 12 0 ∙ rw n
+  placed-more zero (r ∷ rs) l = absurd (not-suc-le-zero l)
+  placed-more (suc m) (r ∷ rs) l = ap (λ (x : List ℕ). wordsOf r ++ x) (placed-more m rs (le-of-suc-le-suc l))
+
+  closed-placed : {r : Request} {k : ℕ} {rs : List Request} (m p : ℕ) → Each Q p rs → length rs ≤ m → Stands r k rs → closed k (placed m rs) ≡ placed m (drop-request (r .serial) rs)
+  unfolding placed closed
+  closed-placed zero p t l first = absurd (not-suc-le-zero l)
+  closed-placed {r = r} (suc m) p t l (first {rs}) =
+      rw (eq-eqb (r .serial) (r .serial) refl, drop-above Q (r .serial) (r .serial) rs (omega arith) (t .2)) (placed-more m rs (le-of-suc-le-suc l))
+  closed-placed zero p t l (later s) = absurd (not-suc-le-zero l)
+  closed-placed {r = r} (suc m) p t l (later {k} {q} {rs} s) =
+      let n : suc k * 12 ≡ length (wordsOf q) + k * 12 = omega arith in
+      let n′ : length (wordsOf q) + k * 12 + 12 ≡ length (wordsOf q) + (k * 12 + 12) = omega arith in
+      rw (
+        n,
+        n′,
+        take-append-add (wordsOf q) (placed m rs) (k * 12),
+        drop-append-add (wordsOf q) (placed m rs) (k * 12 + 12),
+        ne-eqb (q .serial) (r .serial) (λ y. omega (arith, stands-above Q (q .serial) (t .2) s)),
+      )
+      (ap (λ (x : List ℕ). wordsOf q ++ x) (closed-placed m (q .serial) (t .2) (le-of-suc-le-suc l) s))
+
+-- a request put at the first place that is not used
+append-placed : (m : ℕ) (rs : List Request) (r : Request) → length rs < m → over (placed m rs) (length rs * 12) (wordsOf r) ≡ placed m (rs ++ (r ∷ []))
+unfolding placed
+append-placed zero rs r h = absurd (not-suc-le-zero h)
+append-placed (suc m) [] r h =
+    let n : suc m * 12 ≡ 12 + m * 12 = omega arith in
+    over-front (replicate (suc m * 12) 0) (wordsOf r) (rw length-replicate (omega arith)) ∙ rw (n, drop-zeros 12 (m * 12))
+append-placed (suc m) (q ∷ rs) r h =
+    let n : suc (length rs) * 12 ≡ length (wordsOf q) + length rs * 12 = omega arith in
+    rw (n, over-skip (wordsOf q) (placed m rs) (length rs * 12) (wordsOf r)) (ap (λ (x : List ℕ). wordsOf q ++ x) (append-placed m rs r (le-of-suc-le-suc h)))
+
+-- the first word of a place that is not used, and of one that is
+unused-word : (m k : ℕ) (rs : List Request) → length rs ≤ k → k < m → getD (placed m rs) (k * 12) 0 ≡ 0
+unfolding placed
+unused-word m k [] l h = getD-replicate {A = ℕ} (m * 12) (k * 12) 0 0 (omega arith)
+unused-word zero k (r ∷ rs) l h = absurd (not-suc-le-zero h)
+unused-word (suc m) zero (r ∷ rs) l h = absurd (not-suc-le-zero l)
+unused-word (suc m) (suc k) (r ∷ rs) l h =
+    let n : suc k * 12 ≡ length (wordsOf r) + k * 12 = omega arith in
+    rw (n, getD-append-add (wordsOf r) (placed m rs) (k * 12) 0) (unused-word m k rs (le-of-suc-le-suc l) (le-of-suc-le-suc h))
+
+used-word : (Q : Request → Type 0) (m k p : ℕ) (rs : List Request) → Each Q p rs → k < length rs → length rs ≤ m → getD (placed m rs) (k * 12) 0 ≡ 0 → ⊥
+unfolding placed
+used-word Q m k p [] t h l e = not-suc-le-zero h
+used-word Q zero k p (r ∷ rs) t h l e = not-suc-le-zero l
+used-word Q (suc m) zero p (r ∷ rs) t h l e = omega (arith, t .0, e)
+used-word Q (suc m) (suc k) p (r ∷ rs) t h l e =
+    let n : suc k * 12 ≡ length (wordsOf r) + k * 12 = omega arith in
+    used-word Q m k (r .serial) rs (t .2) (le-of-suc-le-suc h) (le-of-suc-le-suc l) (sym (getD-append-add (wordsOf r) (placed m rs) (k * 12) 0) ∙ ap (λ (i : ℕ). getD (wordsOf r ++ placed m rs) i 0) (sym n) ∙ e)
+
+-- ---- the words of a list, and of places that are changed all
+
+-- the words of some requests, one after the other
+flat : List Request → List ℕ
+flat [] = []
+flat (r ∷ rs) = wordsOf r ++ flat rs
+
+length-flat : (rs : List Request) → length (flat rs) ≡ length rs * 12
+unfolding flat
+length-flat [] = refl
+length-flat (r ∷ rs) = omega (arith, length-flat rs)
+
+placed-flat : (m : ℕ) (rs : List Request) → length rs ≤ m → placed m rs ≡ flat rs ++ replicate ((m - length rs) * 12) 0
+unfolding placed flat
+placed-flat m [] l = rw sub-zero
+placed-flat zero (r ∷ rs) l = absurd (not-suc-le-zero l)
+placed-flat (suc m) (r ∷ rs) l =
+    let e : suc m - suc (length rs) ≡ m - length rs = omega arith in
+    rw (placed-flat m rs (le-of-suc-le-suc l), e)
+
+unused-words : (m : ℕ) (rs : List Request) → length rs ≤ m → drop (length rs * 12) (placed m rs) ≡ replicate ((m - length rs) * 12) 0
+unused-words m rs l = rw (placed-flat m rs l) (drop-at (flat rs) (replicate ((m - length rs) * 12) 0) (length rs * 12) (length-flat rs))
+
+-- the words of a place, with a mark
+overlapped-words : (b : Bool) (r : Request) (x : List ℕ) → take 12 (cond b (set (wordsOf r ++ x) 7 1) (wordsOf r ++ x)) ≡ wordsOf (cond b (mark-overlapped r) r)
+overlapped-words true r x = refl
+overlapped-words false r x = refl
+
+abandoned-words : (b : Bool) (r : Request) (x : List ℕ) → take 12 (cond b (set (wordsOf r ++ x) 9 1) (wordsOf r ++ x)) ≡ wordsOf (cond b (mark-abandoned r) r)
+abandoned-words true r x = refl
+abandoned-words false r x = refl
+
+overlapped-placed : (f : Request → Bool) (n p m : ℕ) (rs : List Request) → Requests n p rs → length rs ≤ m → overlapped-from f m (placed m rs) ≡ placed m (map (λ r. cond (f r) (mark-overlapped r) r) rs)
+unfolding overlapped-from placed
+overlapped-placed f n p zero [] q l = refl
+overlapped-placed f n p (suc m) [] q l = rw (getD-replicate {A = ℕ} (suc m * 12) 0 0 0 (omega arith))
+overlapped-placed f n p zero (r ∷ rs) q l = absurd (not-suc-le-zero l)
+overlapped-placed f n p (suc m) (r ∷ rs) q l =
+    rw (
+      ne-eqb (r .serial) 0 (λ z. omega (arith, q .0)),
+      request-back r (placed m rs) (request-fits n r (q .1)),
+      overlapped-words (f r) r (placed m rs),
+      overlapped-placed f n (r .serial) m rs (q .2) (le-of-suc-le-suc l),
+    )
+
+-- the requests that remain when the player restarts
+abbrev pub given-up : ℕ → List Request → List Request
+given-up i rs = map (give-up i) (keep (remains i) rs)
+
+remaining-cond : (i : ℕ) (b : Bool) (r : Request) (rs : List Request) → cond b (wordsOf (give-up i r) ++ flat (given-up i rs)) (flat (given-up i rs)) ≡ flat (map (give-up i) (cond b (r ∷ keep (remains i) rs) (keep (remains i) rs)))
+unfolding flat
+remaining-cond i true r rs = refl
+remaining-cond i false r rs = refl
+
+remaining-placed : (i n p m : ℕ) (rs : List Request) → Requests n p rs → length rs ≤ m → remaining i m (placed m rs) ≡ flat (given-up i rs)
+unfolding remaining placed flat
+remaining-placed i n p zero [] q l = refl
+remaining-placed i n p (suc m) [] q l = rw (getD-replicate {A = ℕ} (suc m * 12) 0 0 0 (omega arith))
+remaining-placed i n p zero (r ∷ rs) q l = absurd (not-suc-le-zero l)
+remaining-placed i n p (suc m) (r ∷ rs) q l =
+    rw (
+      ne-eqb (r .serial) 0 (λ z. omega (arith, q .0)),
+      request-back r (placed m rs) (request-fits n r (q .1)),
+      abandoned-words (by i r) r (placed m rs),
+      remaining-placed i n (r .serial) m rs (q .2) (le-of-suc-le-suc l),
+    )
+    (remaining-cond i (remains i r) r rs)
+
+-- ---- the calls
+
+module _ (n : ℕ) (rs : List Request) (few : length rs ≤ places) (q : Requests n 0 rs) where
+  is-whole : eqb (length (regionOf rs)) 768 ≡ true
+  is-whole = eq-eqb (length (regionOf rs)) 768 (length-placed places rs)
+
+  pub scanned-region : (f : Request → Bool) → scanned f (regionOf rs) ≡ record { used = length rs; hit = any f rs }
+  scanned-region f = rw (requests-region n rs few q)
+
+  pub full-region : full (regionOf rs) ≡ leb places (length rs)
+  full-region =
+      ⊎-elim
+      (λ h.
+      let l : places ≤ length rs = leb-true places (length rs) h in
+      rw (is-whole, ne-eqb (getD (regionOf rs) 756 0) 0 (used-word _ places 63 0 rs q (omega arith) few), h))
+      (λ h.
+      let l : length rs < places = leb-false places (length rs) h in
+      rw (is-whole, eq-eqb (getD (regionOf rs) 756 0) 0 (unused-word places 63 rs (omega arith) (omega arith)), h))
+      (decide (leb places (length rs)))
+
+  -- nothing is found
+  pub nowhere-region : {A : Type 0} (f : Request → Bool) (i : ℕ) (x : A) (go : Request → A) → Nowhere ≡ found i (regionOf rs) → find (λ r. serial-is i r && f r) rs x go ≡ x
+  nowhere-region f i x go e = find-nowhere f i 0 rs x go (e ∙ ap (found-from i 0) (requests-region n rs few q))
+
+  module _ (i k : ℕ) (r : Request) (e : At k r ≡ found i (regionOf rs)) where
+    here-lies : Lies i 0 k r rs
+    here-lies = lies i 0 k r rs (e ∙ ap (found-from i 0) (requests-region n rs few q))
+
+    pub found-serial : r .serial ≡ i
+    found-serial = here-lies .serial
+
+    pub found-stands : Stands r k rs
+    found-stands = let l = here-lies in let z : k ≡ l .place = l .counted ∙ zero-add (l .place) in rw z (l .stands)
+
+    pub found-region : {A : Type 0} (f : Request → Bool) (x : A) (go : Request → A) → find (λ r. serial-is i r && f r) rs x go ≡ cond (f r) (go r) x
+    found-region f x go = rw (← found-serial) (find-standing _ f x go 0 q found-stands)
+
+  -- the request at place k
+  module _ {k : ℕ} {r : Request} (s : Stands r k rs) where
+    pub without-region : without k (regionOf rs) ≡ regionOf (drop-request (r .serial) rs)
+    unfolding without
+    without-region =
+        let h : k < places = let b = stands-below s in omega arith in
+        rw (is-whole, lt-ltb k places h) (closed-placed _ places 0 q few s)
+
+    pub abandoned-region : with-abandoned k (regionOf rs) ≡ regionOf (change-request (r .serial) mark-abandoned rs)
+    unfolding with-abandoned
+    abandoned-region =
+        rw is-whole (set-from (regionOf rs) (k * 12) 9 1 ∙ change-placed _ places mark-abandoned (λ w. set w 9 1) (λ x. refl) 0 q few s)
+
+    pub delivered-region : (a b : ℕ) → with-delivered k a b (regionOf rs) ≡ regionOf (change-request (r .serial) (mark-delivered a b) rs)
+    unfolding with-delivered
+    delivered-region a b =
+        rw is-whole
+        (sets-from (regionOf rs) (k * 12) 8 1 10 a 11 b ∙ change-placed _ places (mark-delivered a b) (λ w. set (set (set w 8 1) 10 a) 11 b) (λ x. refl) 0 q few s)
+
+  pub append-region : (r : Request) → length rs < places → with-request (length rs) r (regionOf rs) ≡ regionOf (rs ++ (r ∷ []))
+  unfolding with-request
+  append-region r h = rw is-whole (append-placed places rs r h)
+
+  pub crossed-region : (i e : ℕ) → crossed i e (regionOf rs) ≡ crossing (record { used = length rs; hit = any (writing i e) rs }) (regionOf (map (λ r. cond (using-entry i e r) (mark-overlapped r) r) rs))
+  unfolding crossed
+  crossed-region i e = rw (requests-region n rs few q, is-whole, overlapped-placed (using-entry i e) n 0 places rs q few)
+
+  pub restarted-region : (i : ℕ) → restarted i (regionOf rs) ≡ regionOf (given-up i rs)
+  unfolding restarted
+  restarted-region i =
+      let l : List Request = given-up i rs in
+      let h : length l ≤ length rs = omega (arith, length-map (keep (remains i) rs) (give-up i), fewer-kept (remains i) rs) in
+      let e : length rs * 12 - length l * 12 + (places - length rs) * 12 ≡ (places - length l) * 12 = omega arith in
+      rw (requests-region n rs few q, is-whole, remaining-placed i n 0 places rs q few, length-flat l, unused-words places rs few, placed-flat places l (omega arith))
+      (ap (λ (x : List ℕ). flat l ++ x) (replicate-append-replicate {A = ℕ} (length rs * 12 - length l * 12) ((places - length rs) * 12) 0 ∙ ap (λ (k : ℕ). replicate {A = ℕ} k 0) e))

@@ -1,0 +1,107 @@
+-- A pass over the places of a region: the requests from place k on, a case for each way that a turn goes.
+-- Assumes nothing.
+use mathlib.Core.Path.{_≡_, sym, ap, _∙_}
+use mathlib.Core.Bool.{Bool, false, _||_, or-false, or-assoc}
+use mathlib.Core.List.{List, [], _∷_}
+use Prim.Native.Nat.{ℕ, suc, _+_, _-_, _*_, _≤_, _<_}
+use native.Mathlib.Nat.{add-zero, zero-add}
+use native.Mathlib.Omega.{arith}
+use lib.ListN.{length, getD, drop}
+use lib.Seq.{getD-drop, drop-drop}
+use borrow.Author.Tests.{eq-eqb, ne-eqb}
+use Rattle.requests.specs.declared.Request.{Request}
+use Rattle.requests.specs.declared.Found.the-variants.{At, Nowhere}
+use Rattle.requests.specs.declared.Scan.{Scan}
+use Rattle.requests.specs.Model.{any}
+use Rattle.requests.specs.Region.{requestAt, requestsFrom, requestsOf}
+use Rattle.requests.specs.Calls.{found-from, found, scanned}
+use Rattle.requests.proofs.Placed.{serial-of}
+
+-- the requests from place k on
+abbrev pub from : List ℕ → ℕ → List Request
+from w k = requestsFrom (64 - k) (drop (k * 12) w)
+
+module _ (w : List ℕ) where
+  pub from-start : length w ≡ 768 → from w 0 ≡ requestsOf w
+  unfolding requestsOf
+  from-start h = rw (eq-eqb (length w) 768 h)
+
+  pub no-requests : (length w ≡ 768 → ⊥) → requestsOf w ≡ []
+  unfolding requestsOf
+  no-requests h = rw (ne-eqb (length w) 768 h)
+
+  module _ (k : ℕ) where
+    pub first-word : getD (drop (k * 12) w) 0 0 ≡ getD w (k * 12) 0
+    first-word = getD-drop (k * 12) w 0 0 ∙ ap (λ (i : ℕ). getD w i 0) (add-zero (k * 12))
+
+    pub next-place : drop ((k + 1) * 12) w ≡ drop 12 (drop (k * 12) w)
+    next-place =
+        let x : (k + 1) * 12 ≡ k * 12 + 12 = omega arith in
+        rw (x, drop-drop)
+
+    pub serial-at : requestAt w k .serial ≡ getD w (k * 12) 0
+    serial-at = serial-of (drop (k * 12) w) ∙ first-word
+
+    pub from-end : 64 ≤ k → from w k ≡ []
+    unfolding requestsFrom
+    from-end h =
+        let x : 64 - k ≡ 0 = omega arith in
+        ap (λ (j : ℕ). requestsFrom j (drop (k * 12) w)) x
+
+    module _ (h : k < 64) where
+      one : 64 - k ≡ suc (64 - (k + 1))
+      one = omega arith
+
+      pub from-unused : getD w (k * 12) 0 ≡ 0 → from w k ≡ []
+      unfolding requestsFrom
+      from-unused z = ap (λ (j : ℕ). requestsFrom j (drop (k * 12) w)) one ∙ rw (first-word, eq-eqb (getD w (k * 12) 0) 0 z)
+
+      pub from-used : (getD w (k * 12) 0 ≡ 0 → ⊥) → from w k ≡ requestAt w k ∷ from w (k + 1)
+      unfolding requestsFrom
+      from-used z = ap (λ (j : ℕ). requestsFrom j (drop (k * 12) w)) one ∙ rw (first-word, ne-eqb (getD w (k * 12) 0) 0 z, next-place)
+
+-- ---- a search
+
+module _ (w : List ℕ) (n : ℕ) where
+  pub find-none : (length w ≡ 768 → ⊥) → Nowhere ≡ found n w
+  unfolding found-from
+  find-none h = rw (no-requests w h)
+
+  pub find-start : length w ≡ 768 → found-from n 0 (from w 0) ≡ found n w
+  find-start h = ap (found-from n 0) (from-start w h)
+
+  module _ (k : ℕ) where
+    pub find-end : from w k ≡ [] → found-from n k (from w k) ≡ Nowhere
+    unfolding found-from
+    find-end e = rw e
+
+    module _ (h : k < 64) (z : getD w (k * 12) 0 ≡ 0 → ⊥) where
+      pub find-hit : getD w (k * 12) 0 ≡ n → found-from n k (from w k) ≡ At k (requestAt w k)
+      unfolding found-from
+      find-hit e = rw (from-used w k h z, eq-eqb (requestAt w k .serial) n (serial-at w k ∙ e))
+
+      pub find-on : (getD w (k * 12) 0 ≡ n → ⊥) → found-from n k (from w k) ≡ found-from n (k + 1) (from w (k + 1))
+      unfolding found-from
+      find-on e = rw (from-used w k h z, ne-eqb (requestAt w k .serial) n (λ y. e (sym (serial-at w k) ∙ y)))
+
+-- ---- a count, with a test
+
+module _ (f : Request → Bool) (w : List ℕ) where
+  -- what the pass will tell, once place k is reached with this result of the test
+  abbrev pub scan-at : ℕ → Bool → Scan
+  scan-at k hit = record { used = k + length (from w k); hit = hit || any f (from w k) }
+
+  pub scan-none : (length w ≡ 768 → ⊥) → record { used = 0; hit = false } ≡ scanned f w
+  scan-none h = rw (no-requests w h)
+
+  pub scan-start : length w ≡ 768 → scan-at 0 false ≡ scanned f w
+  scan-start h = rw (from-start w h, zero-add)
+
+  module _ (k : ℕ) (hit : Bool) where
+    pub scan-end : from w k ≡ [] → record { used = k; hit = hit } ≡ scan-at k hit
+    scan-end e = rw (e, add-zero, or-false)
+
+    pub scan-on : k < 64 → (getD w (k * 12) 0 ≡ 0 → ⊥) → (r : Request) → r ≡ requestAt w k → (b : Bool) → b ≡ hit || f r → scan-at k hit ≡ scan-at (k + 1) b
+    scan-on h z r er b eb =
+        let x : k + suc (length (from w (k + 1))) ≡ k + 1 + length (from w (k + 1)) = omega arith in
+        rw (from-used w k h z, eb, er, x, or-assoc)

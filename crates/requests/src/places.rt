@@ -1,0 +1,163 @@
+// One place of the region: 12 words, which hold a request.
+use crate::Request;
+use crate::tests;
+use store::words;
+ghost use mathlib.Core.Path.{_≡_};
+ghost use mathlib.Core.Bool.{cond, not, _&&_};
+ghost use Prim.Native.Nat.{_+_, _*_, _%_, _≤_, _<_};
+ghost use lib.Dec.{ltb, eqb};
+ghost use lib.ListN.{length, getD, take, drop, set};
+ghost use Rattle.requests.specs.Model.{by, using-entry};
+ghost use Rattle.requests.specs.Region.{requestAt, bit, wordsOf};
+ghost use Rattle.requests.specs.Calls.{over, closed, carried, carry};
+
+// A word cut to a player.
+fn octal(x: u32) -> u8
+    ensures { λ r. ⌜ r ≡ x % 8 ⌝ }
+{
+    (x % 8) as u8
+}
+
+// A word cut to 8 bits.
+fn byte(x: u32) -> u8
+    ensures { λ r. ⌜ r ≡ x % 256 ⌝ }
+{
+    (x % 256) as u8
+}
+
+// A word cut to 16 bits.
+fn half(x: u32) -> u16
+    ensures { λ r. ⌜ r ≡ x % 65536 ⌝ }
+{
+    (x % 65536) as u16
+}
+
+// A mark.
+fn flag(x: u32) -> bool
+    ensures { λ r. ⌜ r ≡ eqb x 1 ⌝ }
+{
+    x == 1
+}
+
+// The request of place `k`.
+pub(crate) fn request_at(region: &[u32], k: usize) -> Request
+    requires { ⌜ (k < 64) × (length (now region) ≡ 768) ⌝ }
+    ensures { λ r. ⌜ r ≡ requestAt (now (region .entry)) k ⌝ }
+{
+    let b = k * 12;
+    Request {
+        serial: region[b],
+        player: octal(region[b + 1]),
+        kind: byte(region[b + 2]),
+        low: byte(region[b + 3]),
+        high: half(region[b + 4]),
+        value: region[b + 5],
+        guard: region[b + 6],
+        overlapped: flag(region[b + 7]),
+        delivered: flag(region[b + 8]),
+        abandoned: flag(region[b + 9]),
+        first: region[b + 10],
+        second: region[b + 11],
+    }
+}
+
+// Whether there is a place `k`, and it is used.
+pub(crate) fn is_used(region: &[u32], k: usize) -> bool
+    requires { ⌜ length (now region) ≡ 768 ⌝ }
+    ensures { λ r. ⌜ r ≡ ltb k 64 && not (eqb (getD (now (region .entry)) (k * 12) 0) 0) ⌝ }
+{
+    if k >= 64 {
+        return false;
+    }
+    region[k * 12] != 0
+}
+
+// A mark's word.
+fn bit(b: bool) -> u32
+    ensures { λ r. ⌜ r ≡ bit b ⌝ }
+{
+    if b { 1 } else { 0 }
+}
+
+// Makes place `k` hold `r`.
+pub(crate) fn put_request(region: &mut [u32], k: usize, r: Request)
+    requires { ⌜ (k < 64) × (length (now region) ≡ 768) ⌝ }
+    ensures { λ _. ⌜ now (region .exit) ≡ over (now (region .entry)) (k * 12) (wordsOf r) ⌝ }
+{
+    let b = k * 12;
+    region[b] = r.serial;
+    region[b + 1] = r.player as u32;
+    region[b + 2] = r.kind as u32;
+    region[b + 3] = r.low as u32;
+    region[b + 4] = r.high as u32;
+    region[b + 5] = r.value;
+    region[b + 6] = r.guard;
+    region[b + 7] = bit(r.overlapped);
+    region[b + 8] = bit(r.delivered);
+    region[b + 9] = bit(r.abandoned);
+    region[b + 10] = r.first;
+    region[b + 11] = r.second;
+}
+
+// Takes place `k` out: later places move down by one, and the last becomes unused.
+pub(crate) fn close(region: &mut [u32], k: usize)
+    requires { ⌜ (k < 64) × (length (now region) ≡ 768) ⌝ }
+    ensures { λ _. ⌜ now (region .exit) ≡ closed k (now (region .entry)) ⌝ }
+{
+    let mut i = k * 12;
+    while i < 756 {
+        region[i] = region[i + 12];
+        i += 1;
+    }
+    words::fill(&mut region[756..768], 0);
+}
+
+// Marks the request `r` of place `k` as overlapped if it is a pending read or write of the player on the entry.
+pub(crate) fn overlap(region: &mut [u32], k: usize, r: Request, player: u8, entry: u8)
+    requires { ⌜ (k < 64) × (length (now region) ≡ 768) ⌝ }
+    ensures { λ _. ⌜ now (region .exit) ≡ cond (using-entry player entry r) (set (now (region .entry)) (k * 12 + 7) 1) (now (region .entry)) ⌝ }
+{
+    if !tests::is_using(r, player, entry) {
+        return;
+    }
+    region[k * 12 + 7] = 1;
+}
+
+// Moves the words of place `k` down to place `j`.
+fn move_down(region: &mut [u32], j: usize, k: usize)
+    requires { ⌜ (j ≤ k) × (k < 64) × (length (now region) ≡ 768) ⌝ }
+    ensures { λ _. ⌜ now (region .exit) ≡ over (now (region .entry)) (j * 12) (take 12 (drop (k * 12) (now (region .entry)))) ⌝ }
+{
+    let b = j * 12;
+    let n = k * 12 - b;
+    let mut i = b;
+    while i < b + 12 {
+        region[i] = region[i + n];
+        i += 1;
+    }
+}
+
+// Marks the request `r` of place `j` as abandoned if it is the player's.
+fn give_up(region: &mut [u32], j: usize, r: Request, player: u8)
+    requires { ⌜ (j < 64) × (length (now region) ≡ 768) ⌝ }
+    ensures { λ _. ⌜ now (region .exit) ≡ cond (by player r) (set (now (region .entry)) (j * 12 + 9) 1) (now (region .entry)) ⌝ }
+{
+    if r.player != player {
+        return;
+    }
+    region[j * 12 + 9] = 1;
+}
+
+// Carries the request of place `k` over to place `j` if it remains when the player restarts. The place for the next one.
+pub(crate) fn carry(region: &mut [u32], j: usize, k: usize, player: u8) -> usize
+    requires { ⌜ (j ≤ k) × (k < 64) × (length (now region) ≡ 768) ⌝ }
+    ensures { λ r. ⌜ carried r (now (region .exit)) ≡ carry player j k (now (region .entry)) ⌝ }
+{
+    let r = request_at(region, k);
+    if !tests::remains(r, player) {
+        return j;
+    }
+    move_down(region, j, k);
+    give_up(region, j, r, player);
+    j + 1
+}

@@ -1,0 +1,163 @@
+// The rules of the region, tested.
+use crate::Request;
+use crate::places;
+use store::words;
+ghost use mathlib.Core.Path.{_≡_};
+ghost use mathlib.Core.Bool.{_&&_};
+ghost use Prim.Native.Nat.{_*_, _<_};
+ghost use lib.ListN.{length, drop};
+ghost use Rattle.requests.specs.Region.{guard-request-holds, read-holds, write-holds, fields-hold, outcome-holds, request-holds, words-fit, places-hold};
+
+// Whether the fields of a guard request keep the rules.
+fn guard_request_holds(r: Request) -> bool
+    ensures { λ b. ⌜ b ≡ guard-request-holds r ⌝ }
+{
+    if r.low as u16 >= r.high {
+        return false;
+    }
+    if r.high > 256 {
+        return false;
+    }
+    if r.value != 0 {
+        return false;
+    }
+    if r.guard != 0 {
+        return false;
+    }
+    !r.overlapped
+}
+
+// Whether the fields of a read keep the rules.
+fn read_holds(r: Request) -> bool
+    ensures { λ b. ⌜ b ≡ read-holds r ⌝ }
+{
+    if r.high != 0 {
+        return false;
+    }
+    r.value == 0
+}
+
+// Whether the fields of a write keep the rules.
+fn write_holds(r: Request) -> bool
+    ensures { λ b. ⌜ b ≡ write-holds r ⌝ }
+{
+    if r.high != 0 {
+        return false;
+    }
+    r.guard != 0
+}
+
+// Whether the fields that a request's kind has, and those that it lacks, keep the rules.
+fn fields_hold(r: Request) -> bool
+    ensures { λ b. ⌜ b ≡ fields-hold r ⌝ }
+{
+    if r.kind == 3 {
+        return guard_request_holds(r);
+    }
+    if r.kind == 4 {
+        return read_holds(r);
+    }
+    if r.kind == 5 {
+        return write_holds(r);
+    }
+    false
+}
+
+// Whether a request's outcome keeps the rules.
+fn outcome_holds(r: Request, last: u32) -> bool
+    ensures { λ b. ⌜ b ≡ outcome-holds last r ⌝ }
+{
+    if !r.delivered {
+        if r.first != 0 {
+            return false;
+        }
+        return r.second == 0;
+    }
+    if r.abandoned {
+        return false;
+    }
+    if r.kind == 4 {
+        return r.first <= last;
+    }
+    if r.first < 1 {
+        return false;
+    }
+    if r.first > 2 {
+        return false;
+    }
+    r.second == 0
+}
+
+// Whether a request keeps the rules.
+fn request_holds(r: Request, last: u32) -> bool
+    ensures { λ b. ⌜ b ≡ request-holds last r ⌝ }
+{
+    if r.serial > last {
+        return false;
+    }
+    if r.player > 7 {
+        return false;
+    }
+    if r.guard >= r.serial {
+        return false;
+    }
+    if !fields_hold(r) {
+        return false;
+    }
+    outcome_holds(r, last)
+}
+
+// Whether the words of place `k` fit their fields.
+fn words_fit(region: &[u32], k: usize) -> bool
+    requires { ⌜ (k < 64) × (length (now region) ≡ 768) ⌝ }
+    ensures { λ b. ⌜ b ≡ words-fit (drop (k * 12) (now (region .entry))) ⌝ }
+{
+    let b = k * 12;
+    if region[b + 1] > 7 {
+        return false;
+    }
+    if region[b + 2] > 255 {
+        return false;
+    }
+    if region[b + 3] > 255 {
+        return false;
+    }
+    if region[b + 4] > 65535 {
+        return false;
+    }
+    if region[b + 7] > 1 {
+        return false;
+    }
+    if region[b + 8] > 1 {
+        return false;
+    }
+    region[b + 9] <= 1
+}
+
+// Whether the 64 places keep the rules.
+pub(crate) fn places_hold(region: &[u32], last: u32) -> bool
+    requires { ⌜ length (now region) ≡ 768 ⌝ }
+    ensures { λ b. ⌜ b ≡ places-hold last 0 64 (now (region .entry)) ⌝ }
+{
+    let mut serial: u32 = 0;
+    let mut k = 0;
+    while k < 64 {
+        let at = k * 12;
+        let next = region[at];
+        if next == 0 {
+            return words::at_most(&region[at..], 0);
+        }
+        if next <= serial {
+            return false;
+        }
+        if !words_fit(region, k) {
+            return false;
+        }
+        if !request_holds(places::request_at(region, k), last) {
+            return false;
+        }
+        serial = next;
+        k += 1;
+    }
+    true
+}

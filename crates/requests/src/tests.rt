@@ -1,0 +1,81 @@
+// Tests of one request.
+use crate::Request;
+use store::Range;
+ghost use mathlib.Core.Path.{_≡_};
+ghost use mathlib.Core.Bool.{_||_};
+ghost use Rattle.requests.specs.Model.{requesting, writing, using-entry};
+ghost use Rattle.requests.specs.Calls.{remains};
+
+// A pending guard request of the player that shares an entry with the range.
+pub(crate) fn is_requesting(r: Request, player: u8, range: Range) -> bool
+    ensures { λ b. ⌜ b ≡ requesting player range r ⌝ }
+{
+    if r.abandoned {
+        return false;
+    }
+    if r.kind != 3 {
+        return false;
+    }
+    if r.player != player {
+        return false;
+    }
+    if r.low as u16 >= range.high {
+        return false;
+    }
+    (range.low as u16) < r.high
+}
+
+// A pending write of the player on the entry.
+pub(crate) fn is_writing(r: Request, player: u8, entry: u8) -> bool
+    ensures { λ b. ⌜ b ≡ writing player entry r ⌝ }
+{
+    if r.abandoned {
+        return false;
+    }
+    if r.kind != 5 {
+        return false;
+    }
+    if r.player != player {
+        return false;
+    }
+    r.low == entry
+}
+
+// A pending read or write of the player on the entry.
+pub(crate) fn is_using(r: Request, player: u8, entry: u8) -> bool
+    ensures { λ b. ⌜ b ≡ using-entry player entry r ⌝ }
+{
+    if r.abandoned {
+        return false;
+    }
+    if r.kind == 3 {
+        return false;
+    }
+    if r.player != player {
+        return false;
+    }
+    r.low == entry
+}
+
+// Whether a request remains when the player restarts: all but those of its pending ones that are delivered.
+pub(crate) fn remains(r: Request, player: u8) -> bool
+    ensures { λ b. ⌜ b ≡ remains player r ⌝ }
+{
+    if r.player != player {
+        return true;
+    }
+    if r.abandoned {
+        return true;
+    }
+    !r.delivered
+}
+
+// One of two tests.
+pub(crate) fn either(a: bool, b: bool) -> bool
+    ensures { λ r. ⌜ r ≡ a || b ⌝ }
+{
+    if a {
+        return true;
+    }
+    b
+}

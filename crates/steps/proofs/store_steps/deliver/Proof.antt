@@ -1,0 +1,101 @@
+-- `steps::store_steps::deliver` meets its contract.
+-- Assumes nothing.
+use mathlib.Core.Path.{sym, _∙_}
+use borrow.Author.Needs.{needs}
+use Rattle.steps.proofs.StoreStepLaws.{deliver-nowhere, deliver-unfit, deliver-fit}
+use Rattle.steps.proofs.store_steps.deliver.Statement.{statement}
+use Rattle.steps.proofs.store_steps.deliver.Tie as tie
+
+sub-find : tie.Need-sub-find
+sub-find c = search needs
+
+part-find-start : tie.Need-part-find-start
+part-find-start c = search needs
+
+part-find-end : tie.Need-part-find-end
+part-find-end c = search needs
+
+find-requires : tie.Need-find-requires
+find-requires c κs = search needs
+
+enum-told : tie.Need-enum-told
+enum-told c = search needs
+
+refuse-requires : tie.Need-refuse-requires
+refuse-requires c κs = search needs
+
+enum-known-found : tie.Need-enum-known-found
+enum-known-found c = search needs
+
+refuse-requires-2 : tie.Need-refuse-requires-2
+refuse-requires-2 c κs = search needs
+
+same-length : tie.Need-same-length
+same-length c = search needs
+
+returns : tie.Need-returns
+returns c =
+    let f = c .before .before .before in
+    let y = f .before .before in
+    let x = y .before .before .before .before .before in
+    rw (c .refuse2 .ensures)
+    (deliver-unfit (x .args .store .now) (x .args .players .now) (x .pre .0) (x .pre .1) (x .args .serial) _ _ (sym (f .found .given .1) ∙ y .find .ensures) (c .before .if1 .taken))
+
+perform-requires : tie.Need-perform-requires
+perform-requires c κs = search needs
+
+settle-requires : tie.Need-settle-requires
+settle-requires c κs = search needs
+
+refuse-requires-3 : tie.Need-refuse-requires-3
+refuse-requires-3 c κs = search needs
+
+same-length-2 : tie.Need-same-length-2
+same-length-2 c = search needs
+
+returns-2 : tie.Need-returns-2
+returns-2 c =
+    let y = c .before .before .before in
+    let x = y .before .before .before .before .before in
+    rw (c .refuse .ensures)
+    (deliver-nowhere (x .args .store .now) (x .args .players .now) (x .pre .0) (x .pre .1) (x .args .serial) (sym (c .before .enum-told .given .1) ∙ y .find .ensures))
+
+same-length-3 : tie.Need-same-length-3
+same-length-3 c = search needs
+
+same-length-4 : tie.Need-same-length-4
+same-length-4 c = search needs
+
+returns-3 : tie.Need-returns-3
+returns-3 c =
+    let z = c .before .before .before in
+    let p = z .before .before .before .before in
+    let e = p .before .before in
+    let f = e .before .before in
+    let y = f .before .before in
+    let x = y .before .before .before .before .before in
+    deliver-fit (x .args .store .now) (x .args .players .now) (x .pre .0) (x .pre .1) (x .args .serial) _ _ (sym (f .found .given .1) ∙ y .find .ensures) (e .if1 .left)
+    _ _ _ _ (p .perform .ensures) (z .settle .ensures) (c .refuse3 .ensures)
+
+pub deliver-spec : {M : Type 1} → statement M
+deliver-spec =
+    tie.close
+    (tie.spec
+    sub-find
+    part-find-start
+    part-find-end
+    find-requires
+    enum-told
+    refuse-requires
+    enum-known-found
+    refuse-requires-2
+    same-length
+    returns
+    perform-requires
+    settle-requires
+    refuse-requires-3
+    same-length-2
+    returns-2
+    same-length-3
+    same-length-4
+    returns-3)

@@ -1,0 +1,98 @@
+// What the players have for each entry, in the players' table: the guards that they hold, and the values that they have cached.
+use store::words;
+ghost use mathlib.Core.Path.{_≡_};
+ghost use Prim.Native.Nat.{_+_, _-_, _*_, _≤_, _<_};
+ghost use lib.ListN.{length};
+ghost use Rattle.steps.specs.Calls.{live-guard, hit, all-are, emptied, cleared, dropped};
+
+// The guard that the player holds for the entry if it is live, else 0.
+pub(crate) fn live_guard(players: &[u32], player: u8, entry: u8) -> u32
+    requires { ⌜ (length (now players) ≡ 9473) × (player < 8) ⌝ }
+    ensures { λ r. ⌜ r ≡ live-guard (now (players .entry)) player entry ⌝ }
+{
+    let e = entry as usize;
+    let guard = players[513 + (player as usize * 256 + e)];
+    if guard == 0 {
+        return 0;
+    }
+    if players[1 + e] != player as u32 {
+        return 0;
+    }
+    if players[257 + e] >= guard {
+        return 0;
+    }
+    guard
+}
+
+// Whether what the player has cached for the entry may be read.
+pub(crate) fn is_hit(players: &[u32], player: u8, entry: u8) -> bool
+    requires { ⌜ (length (now players) ≡ 9473) × (player < 8) ⌝ }
+    ensures { λ r. ⌜ r ≡ hit (now (players .entry)) player entry ⌝ }
+{
+    let guard = players[2561 + (player as usize * 256 + entry as usize)];
+    if guard == 0 {
+        return false;
+    }
+    live_guard(players, player, entry) == guard
+}
+
+// Whether each word from `low` up to `high` is `v`.
+pub(crate) fn all_are(players: &[u32], low: usize, high: usize, v: u32) -> bool
+    requires { ⌜ (low ≤ high) × (high ≤ length (now players)) ⌝ }
+    ensures { λ r. ⌜ r ≡ all-are v low (high - low) (now (players .entry)) ⌝ }
+{
+    let mut i = low;
+    while i < high {
+        if players[i] != v {
+            return false;
+        }
+        i += 1;
+    }
+    true
+}
+
+// Empties cell `i` of the cached values.
+pub(crate) fn empty(players: &mut [u32], i: usize)
+    requires { ⌜ (length (now players) ≡ 9473) × (i < 2048) ⌝ }
+    ensures { λ _. ⌜ now (players .exit) ≡ emptied i (now (players .entry)) ⌝ }
+{
+    players[2561 + i] = 0;
+    players[4609 + i] = 0;
+    players[6657 + i] = 0;
+}
+
+// Clears the guards of cells `low` up to `high`, each with what is cached under it.
+pub(crate) fn clear(players: &mut [u32], low: usize, high: usize)
+    requires { ⌜ (length (now players) ≡ 9473) × (low ≤ high) × (high ≤ 2048) ⌝ }
+    ensures { λ _. ⌜ now (players .exit) ≡ cleared low high (now (players .entry)) ⌝ }
+{
+    words::fill(&mut players[513 + low..513 + high], 0);
+    words::fill(&mut players[2561 + low..2561 + high], 0);
+    words::fill(&mut players[4609 + low..4609 + high], 0);
+    words::fill(&mut players[6657 + low..6657 + high], 0);
+}
+
+// Clears the guard of cell `i` if it is `guard`, with what is cached under it.
+fn drop_at(players: &mut [u32], i: usize, guard: u32)
+    requires { ⌜ (length (now players) ≡ 9473) × (i < 2048) ⌝ }
+    ensures { λ _. ⌜ now (players .exit) ≡ dropped guard i 1 (now (players .entry)) ⌝ }
+{
+    if players[513 + i] != guard {
+        return;
+    }
+    players[513 + i] = 0;
+    empty(players, i);
+}
+
+// Clears each guard of the player that is `guard`.
+pub(crate) fn drop_guard(players: &mut [u32], player: u8, guard: u32)
+    requires { ⌜ (length (now players) ≡ 9473) × (player < 8) ⌝ }
+    ensures { λ _. ⌜ now (players .exit) ≡ dropped guard (player * 256) 256 (now (players .entry)) ⌝ }
+{
+    let low = player as usize * 256;
+    let mut e: usize = 0;
+    while e < 256 {
+        drop_at(players, low + e, guard);
+        e += 1;
+    }
+}

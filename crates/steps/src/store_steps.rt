@@ -1,0 +1,85 @@
+// The steps that read or write the store's table. The tables' lengths are known; their rules are not tested.
+use crate::refuse;
+use requests::Found;
+use requests::Request;
+use requests::region;
+use store::Range;
+use store::Reply;
+ghost use mathlib.Core.Path.{_≡_};
+ghost use lib.ListN.{length};
+ghost use Rattle.store.specs.Calls.{Steps};
+ghost use Rattle.players.specs.Rules.{step};
+ghost use Rattle.players.specs.declared.Step.the-variants.{Deliver, Split, Merge, RestartTablet};
+ghost use Rattle.steps.specs.StoreCalls.{Shifts, Acts, performed, settled-words};
+
+// Step 10: a boundary before the entry.
+pub(crate) fn split(store: &mut [u32], entry: u8) -> Reply
+    requires { ⌜ length (now store) ≡ 1280 ⌝ }
+    ensures { λ r. ⌜ Shifts (λ s. step s (Split entry)) (now (store .entry)) r (now (store .exit)) ⌝ }
+{
+    store::steps::split(store, entry)
+}
+
+// Step 11: the boundary before the entry removed.
+pub(crate) fn merge(store: &mut [u32], entry: u8) -> Reply
+    requires { ⌜ length (now store) ≡ 1280 ⌝ }
+    ensures { λ r. ⌜ Shifts (λ s. step s (Merge entry)) (now (store .entry)) r (now (store .exit)) ⌝ }
+{
+    store::steps::merge(store, entry)
+}
+
+// Step 12: the guards of the tablet that holds the entry become 0.
+pub(crate) fn restart_tablet(store: &mut [u32], entry: u8) -> Reply
+    requires { ⌜ length (now store) ≡ 1280 ⌝ }
+    ensures { λ r. ⌜ Shifts (λ s. step s (RestartTablet entry)) (now (store .entry)) r (now (store .exit)) ⌝ }
+{
+    store::steps::restart(store, entry)
+}
+
+// What the store does with a request that is delivered. The reply's two numbers are the outcome.
+fn perform(store: &mut [u32], r: Request) -> Reply
+    ensures { λ x. ⌜ Steps (performed r) (now (store .entry)) x (now (store .exit)) ⌝ }
+{
+    if r.kind == 3 {
+        let range = Range {
+            low: r.low,
+            high: r.high,
+        };
+        return store::steps::install(store, range, r.serial);
+    }
+    if r.kind == 4 {
+        return store::steps::read(store, r.low);
+    }
+    store::steps::commit(store, r.low, r.value, r.serial, r.guard)
+}
+
+// The request of place `k` leaves if it is abandoned, else it is delivered with this outcome.
+fn settle(players: &mut [u32], k: usize, abandoned: bool, first: u32, second: u32)
+    requires { ⌜ length (now players) ≡ 9473 ⌝ }
+    ensures { λ _. ⌜ now (players .exit) ≡ settled-words k abandoned first second (now (players .entry)) ⌝ }
+{
+    if abandoned {
+        region::remove(&mut players[8705..9473], k);
+        return;
+    }
+    region::deliver(&mut players[8705..9473], k, first, second);
+}
+
+// Step 6: a request that is not delivered yet reaches the store. If it is abandoned, it leaves.
+pub(crate) fn deliver(store: &mut [u32], players: &mut [u32], serial: u32) -> Reply
+    requires { ⌜ (length (now store) ≡ 1280) × (length (now players) ≡ 9473) ⌝ }
+    ensures { λ r. ⌜ Acts (λ s. step s (Deliver serial)) (now (store .entry)) (now (players .entry)) r (now (store .exit)) (now (players .exit)) ⌝ }
+{
+    let found = region::find(&players[8705..9473], serial);
+    match found {
+        Found::Nowhere => refuse(32),
+        Found::At { place, request } => {
+            if request.delivered {
+                return refuse(32);
+            }
+            let outcome = perform(store, request);
+            settle(players, place, request.abandoned, outcome.a, outcome.b);
+            refuse(0)
+        }
+    }
+}

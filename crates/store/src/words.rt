@@ -1,0 +1,45 @@
+// Words of a table: calls that the crates above use too.
+ghost use mathlib.Core.Path.{_≡_};
+ghost use mathlib.Core.Bool.{cond};
+ghost use lib.Dec.{eqb};
+ghost use lib.ListN.{length, replicate};
+ghost use Rattle.store.specs.Table.{at-most};
+
+// Whether each word of `part` is at most `n`.
+pub fn at_most(part: &[u32], n: u32) -> bool
+    ensures { λ r. ⌜ r ≡ at-most n (now (part .entry)) ⌝ }
+{
+    let mut i = 0;
+    while i < part.len() {
+        if part[i] > n {
+            return false;
+        }
+        i += 1;
+    }
+    true
+}
+
+// Makes each word of `part` be `v`.
+pub fn fill(part: &mut [u32], v: u32)
+    ensures { λ _. ⌜ now (part .exit) ≡ replicate (length (now (part .entry))) v ⌝ }
+{
+    let mut i = 0;
+    while i < part.len() {
+        part[i] = v;
+        i += 1;
+    }
+}
+
+// Writes all of `from` over `part`, which stays as it is where their lengths differ.
+pub fn copy(part: &mut [u32], from: &[u32])
+    ensures { λ _. ⌜ now (part .exit) ≡ cond (eqb (length (now (part .entry))) (length (now (from .entry)))) (now (from .entry)) (now (part .entry)) ⌝ }
+{
+    if part.len() != from.len() {
+        return;
+    }
+    let mut i = 0;
+    while i < part.len() {
+        part[i] = from[i];
+        i += 1;
+    }
+}

@@ -1,0 +1,263 @@
+//! Tables that break one rule alone, and damaged sessions.
+
+use crate::prng::Prng;
+use crate::request_words::{RequestWords, REQUEST_WORDS};
+use crate::state::{Cached, Operation, Request, State, MAX_SERIAL};
+use crate::states::any_state;
+use crate::step::Range;
+use crate::store::{GuardOutcome, Versioned, WriteOutcome};
+use crate::table_rules::TableRule;
+use crate::tables::{
+    tables_of, BOUNDARIES, CACHED_GUARDS, CACHED_VALUES, CACHED_VERSIONS, EPOCHS, HELD_GUARDS,
+    INTERVAL_GUARDS, INTERVAL_STARTS, LAST_SERIAL, OWNERS, REQUESTS, VERSIONS,
+};
+
+/// The places of the requests in [`rich_state`].
+const GUARD: usize = 0;
+const GUARD_DELIVERED: usize = 1;
+const READ: usize = 2;
+const READ_DELIVERED: usize = 3;
+const WRITE: usize = 4;
+const WRITE_DELIVERED: usize = 5;
+const USED: usize = 6;
+
+/// The guard intervals of [`rich_state`].
+const INTERVALS: usize = 3;
+
+/// The entry whose cached value is full for player 0 in [`rich_state`]; the next one's is empty.
+const CACHED_ENTRY: usize = 7;
+
+/// A state in which every rule has something to apply to: three guard intervals, each kind of
+/// request undelivered and delivered, a full and an empty cached value, serials left.
+pub fn rich_state(rng: &mut Prng) -> State {
+    let mut state = any_state(rng);
+    let last = rng.between(1_000, MAX_SERIAL - 1_000);
+    state = State {
+        last_serial: last,
+        requests: rich_requests(rng, last),
+        ..state
+    };
+    for serial in state
+        .epochs
+        .iter_mut()
+        .chain(state.store.versions.iter_mut())
+        .chain(state.held.as_flattened_mut())
+    {
+        *serial = (*serial).min(last);
+    }
+    for cached in state.cached.as_flattened_mut() {
+        cached.guard = cached.guard.min(last);
+        cached.version = cached.version.min(last);
+    }
+    state.cached[0][CACHED_ENTRY] = Cached {
+        guard: rng.between(1, last),
+        version: rng.below(last),
+        value: rng.word(),
+    };
+    state.cached[0][CACHED_ENTRY + 1] = Cached::EMPTY;
+    let guard = rng.between(3, last);
+    let (second, third) = (rng.between(2, 100) as usize, rng.between(101, 255) as usize);
+    state.store.guards[..second].fill(guard);
+    state.store.guards[second..third].fill(guard - 1);
+    state.store.guards[third..].fill(guard - 2);
+    state
+}
+
+fn rich_requests(rng: &mut Prng, last: u32) -> Vec<Request> {
+    let range = Range::new(rng.below(100) as u8, rng.between(101, 256) as u16);
+    let entry = rng.below(256) as u8;
+    let guard = rng.between(1, 300);
+    let overlapped = rng.chance(50);
+    let value = rng.word();
+    let read = |outcome| Operation::Read {
+        entry,
+        guard,
+        overlapped,
+        outcome,
+    };
+    let write = |outcome| Operation::Write {
+        entry,
+        value,
+        guard,
+        overlapped,
+        outcome,
+    };
+    let held = Versioned {
+        version: rng.below(last),
+        value,
+    };
+    let operations: [Operation; USED] = [
+        Operation::Guard {
+            range,
+            outcome: None,
+        },
+        Operation::Guard {
+            range,
+            outcome: Some(GuardOutcome::Set),
+        },
+        read(None),
+        read(Some(held)),
+        write(None),
+        write(Some(WriteOutcome::Rejected)),
+    ];
+    let mut serial = rng.between(301, 400);
+    let mut requests = Vec::with_capacity(USED);
+    for operation in operations {
+        requests.push(Request {
+            serial,
+            player: rng.below(8) as u8,
+            abandoned: false,
+            operation,
+        });
+        serial += rng.between(1, 50);
+    }
+    requests
+}
+
+/// Tables that break this rule and no other.
+pub fn break_rule(rng: &mut Prng, rule: TableRule) -> (Vec<u32>, Vec<u32>) {
+    let state = rich_state(rng);
+    let (mut store, mut players) = tables_of(&state);
+    let above = state.last_serial + 1 + rng.below(3);
+    let any_entry = rng.index(256);
+    let any_cell = rng.index(2_048);
+    let cached = CACHED_ENTRY;
+    let empty = CACHED_ENTRY + 1;
+    match rule {
+        TableRule::BoundaryBit => store[BOUNDARIES + rng.between(1, 255) as usize] = above.max(2),
+        TableRule::FirstBoundary => store[BOUNDARIES] = 0,
+        TableRule::FirstInterval => store[INTERVAL_STARTS] = 1,
+        TableRule::IntervalOrder => store[INTERVAL_STARTS + 2] = store[INTERVAL_STARTS + 1],
+        TableRule::IntervalEntry => {
+            store[INTERVAL_STARTS + INTERVALS - 1] = 256 + rng.below(3);
+        }
+        TableRule::IntervalNeighbours => store[INTERVAL_GUARDS + 1] = store[INTERVAL_GUARDS],
+        TableRule::IntervalUnused => {
+            let place = rng.between(INTERVALS as u32 + 1, 255) as usize;
+            let column = [INTERVAL_STARTS, INTERVAL_GUARDS][rng.index(2)];
+            store[column + place] = rng.between(1, 255);
+        }
+        TableRule::GuardSerial => store[INTERVAL_GUARDS + rng.index(INTERVALS)] = above,
+        TableRule::VersionSerial => store[VERSIONS + any_entry] = above,
+        TableRule::LastSerial => players[LAST_SERIAL] = MAX_SERIAL + 1 + rng.below(3),
+        TableRule::Owner => players[OWNERS + any_entry] = 9 + rng.below(300),
+        TableRule::EpochSerial => players[EPOCHS + any_entry] = above,
+        TableRule::HeldSerial => players[HELD_GUARDS + any_cell] = above,
+        TableRule::CachedGuardSerial => players[CACHED_GUARDS + any_cell] = above,
+        TableRule::CachedVersionSerial => players[CACHED_VERSIONS + cached] = above,
+        TableRule::CachedEmpty => {
+            let column = [CACHED_VERSIONS, CACHED_VALUES][rng.index(2)];
+            players[column + empty] = 1;
+        }
+        TableRule::RequestUnused => {
+            let word = rng.between(1, REQUEST_WORDS as u32 - 1) as usize;
+            players[REQUESTS + rng.between(USED as u32, 63) as usize * REQUEST_WORDS + word] = 1;
+        }
+        TableRule::RequestGap => {
+            let last = request(&players, USED - 1);
+            change(&mut players, USED - 1, |r| *r = RequestWords::default());
+            change(&mut players, USED, |r| *r = last);
+        }
+        TableRule::RequestOrder => {
+            let serial = request(&players, GUARD).serial + rng.below(2);
+            change(&mut players, GUARD, |r| r.serial = serial);
+            let second = serial - rng.below(2);
+            change(&mut players, GUARD_DELIVERED, |r| r.serial = second);
+        }
+        TableRule::RequestSerial => change(&mut players, USED - 1, |r| r.serial = above),
+        TableRule::RequestPlayer => {
+            let player = 8 + rng.below(300);
+            change(&mut players, rng.index(USED), |r| r.player = player);
+        }
+        TableRule::RequestKind => {
+            let kind = [0, 1, 2, 6, 7, 256 + 4][rng.index(6)];
+            change(&mut players, rng.index(USED), |r| r.kind = kind);
+        }
+        TableRule::RequestRange => {
+            let (low, high) =
+                [(5, 5), (6, 5), (0, 0), (0, 257), (256, 257), (0, 65_537)][rng.index(6)];
+            change(&mut players, rng.index(2), |r| {
+                (r.low, r.high) = (low, high)
+            });
+        }
+        TableRule::RequestEntry => {
+            let place = [READ, READ_DELIVERED, WRITE, WRITE_DELIVERED][rng.index(4)];
+            change(&mut players, place, |r| r.low = 256);
+        }
+        TableRule::RequestHigh => {
+            let place = [READ, READ_DELIVERED, WRITE, WRITE_DELIVERED][rng.index(4)];
+            change(&mut players, place, |r| r.high = r.low + 1);
+        }
+        TableRule::RequestValue => {
+            let place = [GUARD, GUARD_DELIVERED, READ, READ_DELIVERED][rng.index(4)];
+            change(&mut players, place, |r| r.value = 1);
+        }
+        TableRule::RequestGuard => change(&mut players, rng.index(2), |r| r.guard = 1),
+        TableRule::WriteGuard => {
+            let place = [WRITE, WRITE_DELIVERED][rng.index(2)];
+            change(&mut players, place, |r| r.guard = 0);
+        }
+        TableRule::CarriedGuard => {
+            let place = [READ, READ_DELIVERED, WRITE, WRITE_DELIVERED][rng.index(4)];
+            let more = rng.below(2);
+            change(&mut players, place, |r| r.guard = r.serial + more);
+        }
+        TableRule::RequestMark => match rng.below(3) {
+            0 => change(&mut players, READ, |r| r.overlapped = 2),
+            1 => change(&mut players, READ_DELIVERED, |r| r.delivered = 2),
+            _ => change(&mut players, WRITE, |r| r.abandoned = 2),
+        },
+        TableRule::GuardOverlapped => change(&mut players, rng.index(2), |r| r.overlapped = 1),
+        TableRule::AbandonedDelivered => {
+            let place = [GUARD_DELIVERED, READ_DELIVERED, WRITE_DELIVERED][rng.index(3)];
+            change(&mut players, place, |r| r.abandoned = 1);
+        }
+        TableRule::OutcomeEarly => {
+            let place = [GUARD, READ, WRITE][rng.index(3)];
+            let number = rng.index(2);
+            change(&mut players, place, |r| r.outcome[number] = 1);
+        }
+        TableRule::OutcomeNumber => {
+            let place = [GUARD_DELIVERED, WRITE_DELIVERED][rng.index(2)];
+            let number = [0, 3, 257][rng.index(3)];
+            change(&mut players, place, |r| r.outcome[0] = number);
+        }
+        TableRule::OutcomeSecond => {
+            let place = [GUARD_DELIVERED, WRITE_DELIVERED][rng.index(2)];
+            change(&mut players, place, |r| r.outcome[1] = 1);
+        }
+        TableRule::OutcomeSerial => change(&mut players, READ_DELIVERED, |r| r.outcome[0] = above),
+    }
+    (store, players)
+}
+
+fn place(at: usize) -> std::ops::Range<usize> {
+    REQUESTS + at * REQUEST_WORDS..REQUESTS + (at + 1) * REQUEST_WORDS
+}
+
+fn request(players: &[u32], at: usize) -> RequestWords {
+    RequestWords::from_slice(&players[place(at)]).unwrap_or_default()
+}
+
+fn change(players: &mut [u32], at: usize, change: impl FnOnce(&mut RequestWords)) {
+    let mut words = request(players, at);
+    change(&mut words);
+    players[place(at)].copy_from_slice(&words.words());
+}
+
+/// Damages a session: changes, removes or puts in a few bytes, or cuts it.
+pub fn damage(rng: &mut Prng, session: &mut Vec<u8>) {
+    for _ in 0..rng.between(1, 3) {
+        let place = rng.index(session.len());
+        match rng.below(5) {
+            0 => session.truncate(place),
+            1 => session.insert(place, rng.below(256) as u8),
+            2 if !session.is_empty() => drop(session.remove(place)),
+            _ => {
+                if let Some(byte) = session.get_mut(place) {
+                    *byte ^= 1 << rng.below(8);
+                }
+            }
+        }
+    }
+}

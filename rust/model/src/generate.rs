@@ -1,0 +1,353 @@
+//! Random steps that collide: few players and entries, serials of requests in flight, long delays,
+//! many abandoned requests, restarts and splits.
+
+use crate::prng::Prng;
+use crate::state::{Request, State, ENTRIES, MAX_SERIAL, NOBODY, PLAYERS};
+use crate::step::{Range, Step, KINDS};
+
+/// What the steps of one list are drawn from. Each list has its own profile, so that some lists
+/// have long delays, some many restarts, some no splits at all.
+#[derive(Clone, Debug)]
+pub struct Profile {
+    /// Players 0 up to, not including, this one.
+    players: u8,
+    /// The entries used.
+    window: Range,
+    /// How often each kind is drawn, kind 1 first.
+    weights: [u32; KINDS as usize],
+    /// In how many of 100 cases a range is the whole window.
+    whole: u32,
+    /// In how many of 100 cases a step is its owner's.
+    by_owner: u32,
+    /// In how many of 100 cases a range with an owner is not assigned anew, and no guard is
+    /// requested by a player that has one.
+    steady: u32,
+    /// In how many of 100 cases all numbers are drawn from everywhere.
+    stray: u32,
+    /// In how many of 100 cases the newest request is delivered or answered at once.
+    prompt: u32,
+    /// In how many of 100 cases a write is abandoned at once.
+    timeouts: u32,
+    /// In how many of 100 cases a delivery is followed by a read.
+    reads: u32,
+    /// Which of the requests that fit is taken.
+    taken: Taken,
+    /// The longest phase; 0 for none.
+    longest_phase: u32,
+    phase: Phase,
+    previous: Option<Step>,
+}
+
+/// Some steps in which only some kinds are drawn: orders such as "two requests, both delivered,
+/// then both answered" are rare without.
+#[derive(Clone, Debug)]
+struct Phase {
+    left: u32,
+    kinds: [bool; KINDS as usize],
+}
+
+impl Phase {
+    const NONE: Phase = Phase {
+        left: 0,
+        kinds: [true; KINDS as usize],
+    };
+
+    fn draw(rng: &mut Prng, longest: u32) -> Phase {
+        let mut phase = Phase::NONE;
+        phase.left = rng.between(1, longest);
+        for kind in &mut phase.kinds {
+            *kind = rng.chance(40);
+        }
+        phase
+    }
+}
+
+/// Which of the requests that fit is taken.
+#[derive(Clone, Copy, Debug)]
+enum Taken {
+    Any,
+    Oldest,
+    Newest,
+}
+
+/// How often each kind is drawn before a profile changes it.
+const WEIGHTS: [u32; KINDS as usize] = [8, 1, 20, 40, 40, 80, 80, 12, 5, 2, 3, 2, 2];
+
+impl Profile {
+    /// A new profile.
+    pub fn draw(rng: &mut Prng) -> Profile {
+        let mut weights = WEIGHTS;
+        for weight in &mut weights {
+            *weight *= [0, 1, 1, 2, 4][rng.index(5)];
+        }
+        // Without these nothing happens.
+        for kind in [1, 3, 4, 5, 6, 7] {
+            weights[kind - 1] = weights[kind - 1].max(WEIGHTS[kind - 1]);
+        }
+        let width = [1, 1, 1, 2, 4, 256][rng.index(6)];
+        let low = rng.below(257 - u32::from(width)) as u8;
+        Profile {
+            players: [1, 1, 2, 2, 3, 8][rng.index(6)],
+            window: Range::new(low, u16::from(low) + width),
+            weights,
+            whole: [30, 70, 100][rng.index(3)],
+            by_owner: [50, 90, 100][rng.index(3)],
+            steady: [0, 80, 98][rng.index(3)],
+            stray: [0, 0, 0, 2, 10][rng.index(5)],
+            prompt: [0, 20, 60][rng.index(3)],
+            timeouts: [0, 0, 20, 60][rng.index(4)],
+            reads: [0, 10, 30][rng.index(3)],
+            taken: [Taken::Any, Taken::Any, Taken::Oldest, Taken::Newest][rng.index(4)],
+            longest_phase: [0, 4, 10][rng.index(3)],
+            phase: Phase::NONE,
+            previous: None,
+        }
+    }
+
+    /// The next step for this state. Most steps fit something in it.
+    pub fn next_step(&mut self, rng: &mut Prng, state: &State) -> Step {
+        if self.longest_phase > 0 {
+            match self.phase.left.checked_sub(1) {
+                Some(left) => self.phase.left = left,
+                None => self.phase = Phase::draw(rng, self.longest_phase),
+            }
+        }
+        if rng.chance(self.stray) {
+            return any_step(rng);
+        }
+        let mut step = self.follow_up(rng, state);
+        for _ in 0..8 {
+            step = step.or_else(|| self.fitting_step(rng, state));
+        }
+        if step.is_none() {
+            self.phase = Phase::NONE;
+        }
+        let step = step.unwrap_or_else(|| any_step(rng));
+        self.previous = Some(step);
+        step
+    }
+
+    /// Now and then a step that follows from the one before: a write is abandoned at once; the
+    /// player then reads, asks for a guard or gets another answer; a delivery is followed by a
+    /// read; the newest request is delivered or answered.
+    fn follow_up(&self, rng: &mut Prng, state: &State) -> Option<Step> {
+        let newest = state.requests.last().filter(|r| r.is_pending());
+        match (self.previous, newest) {
+            (Some(Step::Write { .. }), Some(newest)) if rng.chance(self.timeouts) => {
+                Some(Step::Abandon {
+                    serial: newest.serial,
+                })
+            }
+            (Some(Step::Abandon { .. } | Step::RestartPlayer { .. }), _)
+                if rng.chance(self.timeouts) =>
+            {
+                let answerable = |r: &Request| r.is_delivered() && r.is_pending();
+                match rng.below(3) {
+                    0 => self.owner_reads(rng, state),
+                    1 => self.owner_asks(state),
+                    _ => self
+                        .serial(rng, state, answerable)
+                        .map(|serial| Step::Respond { serial }),
+                }
+            }
+            (Some(Step::Deliver { .. }), _) if rng.chance(self.reads) => {
+                self.owner_reads(rng, state)
+            }
+            (_, Some(newest)) if rng.chance(self.prompt) => {
+                let serial = newest.serial;
+                Some(if newest.is_delivered() {
+                    Step::Respond { serial }
+                } else {
+                    Step::Deliver { serial }
+                })
+            }
+            _ => None,
+        }
+    }
+
+    /// The owner of an entry reads it.
+    fn owner_reads(&self, rng: &mut Prng, state: &State) -> Option<Step> {
+        let entry = self.entry(rng);
+        let player = state.owners[usize::from(entry)];
+        (player != NOBODY).then_some(Step::Read { player, entry })
+    }
+
+    /// The owner of the window asks for a guard.
+    fn owner_asks(&self, state: &State) -> Option<Step> {
+        let player = state.owners[usize::from(self.window.low)];
+        let range = self.window;
+        (player != NOBODY).then_some(Step::RequestGuard { player, range })
+    }
+
+    /// A kind drawn by weight; none if the phase has no kind with a weight.
+    fn kind(&self, rng: &mut Prng) -> Option<u8> {
+        let weight = |kind: u8| {
+            let at = usize::from(kind) - 1;
+            self.weights[at] * u32::from(self.phase.kinds[at])
+        };
+        let mut left = rng.below((1..=KINDS).map(weight).sum());
+        for kind in 1..=KINDS {
+            if left < weight(kind) {
+                return Some(kind);
+            }
+            left -= weight(kind);
+        }
+        None
+    }
+
+    /// A step of a kind drawn by weight. None if no request fits it, and mostly none if the player
+    /// lacks what the step needs.
+    fn fitting_step(&self, rng: &mut Prng, state: &State) -> Option<Step> {
+        let range = self.range(rng);
+        let entry = self.entry(rng);
+        let player = rng.below(u32::from(self.players)) as u8;
+        let owner = |rng: &mut Prng, entry: u8| match state.owners[usize::from(entry)] {
+            NOBODY => player,
+            owner if rng.chance(self.by_owner) => owner,
+            _ => player,
+        };
+        let owned = state.owners[usize::from(range.low)] != NOBODY;
+        let unready = rng.chance(5);
+        Some(match self.kind(rng)? {
+            1 if owned && rng.chance(self.steady) => return None,
+            1 => Step::Assign { player, range },
+            2 => Step::Release { range },
+            3 => {
+                let player = owner(rng, range.low);
+                let mut owners = state.owners[range.entries()].iter();
+                let all = owners.all(|&owner| owner == player);
+                let held = state.held[usize::from(player)][usize::from(range.low)] != 0;
+                let ready = all && !(held && rng.chance(self.steady));
+                (ready || unready).then_some(Step::RequestGuard { player, range })?
+            }
+            4 => Step::Read {
+                player: owner(rng, entry),
+                entry,
+            },
+            5 => {
+                let player = owner(rng, entry);
+                let value = rng.between(1, 9);
+                let guarded = state.held[usize::from(player)][usize::from(entry)] != 0;
+                (guarded || unready).then_some(Step::Write {
+                    player,
+                    entry,
+                    value,
+                })?
+            }
+            6 => Step::Deliver {
+                serial: self.serial(rng, state, |r| !r.is_delivered())?,
+            },
+            7 => Step::Respond {
+                serial: self.serial(rng, state, |r| r.is_delivered() && r.is_pending())?,
+            },
+            8 => Step::Abandon {
+                serial: self.serial(rng, state, Request::is_pending)?,
+            },
+            9 => Step::Lose {
+                serial: self.serial(rng, state, |r| r.abandoned)?,
+            },
+            10 => Step::Split { entry },
+            11 => Step::Merge { entry },
+            12 => Step::RestartTablet { entry },
+            _ => Step::RestartPlayer { player },
+        })
+    }
+
+    fn entry(&self, rng: &mut Prng) -> u8 {
+        let width = u32::from(self.window.high) - u32::from(self.window.low);
+        self.window.low + rng.below(width) as u8
+    }
+
+    fn range(&self, rng: &mut Prng) -> Range {
+        if rng.chance(self.whole) {
+            return self.window;
+        }
+        let (one, other) = (self.entry(rng), self.entry(rng));
+        Range::new(one.min(other), u16::from(one.max(other)) + 1)
+    }
+
+    /// The serial of a request that fits; now and then of one that does not, or of none.
+    fn serial(
+        &self,
+        rng: &mut Prng,
+        state: &State,
+        fits: impl Fn(&Request) -> bool,
+    ) -> Option<u32> {
+        if rng.chance(2) {
+            return Some(rng.below(state.last_serial + 2));
+        }
+        let all = rng.chance(2);
+        let fitting: Vec<u32> = state
+            .requests
+            .iter()
+            .filter(|request| all || fits(request))
+            .map(|request| request.serial)
+            .collect();
+        match self.taken {
+            Taken::Oldest if rng.chance(80) => fitting.first().copied(),
+            Taken::Newest if rng.chance(80) => fitting.last().copied(),
+            _ => rng.pick(&fitting).copied(),
+        }
+    }
+}
+
+/// A step of any kind with any numbers.
+pub fn any_step(rng: &mut Prng) -> Step {
+    let player = small_or_any(rng, 9) as u8;
+    let entry = small_or_any(rng, 2) as u8;
+    let range = Range::new(entry, rng.below(300) as u16);
+    let serial = match rng.below(4) {
+        0 => MAX_SERIAL - 2 + rng.below(5),
+        1 => rng.word(),
+        _ => rng.below(40),
+    };
+    match rng.below(u32::from(KINDS)) + 1 {
+        1 => Step::Assign { player, range },
+        2 => Step::Release { range },
+        3 => Step::RequestGuard { player, range },
+        4 => Step::Read { player, entry },
+        5 => Step::Write {
+            player,
+            entry,
+            value: rng.word(),
+        },
+        6 => Step::Deliver { serial },
+        7 => Step::Respond { serial },
+        8 => Step::Abandon { serial },
+        9 => Step::Lose { serial },
+        10 => Step::Split { entry },
+        11 => Step::Merge { entry },
+        12 => Step::RestartTablet { entry },
+        _ => Step::RestartPlayer { player },
+    }
+}
+
+/// Most often a number below the bound, else any byte.
+fn small_or_any(rng: &mut Prng, bound: u32) -> u32 {
+    if rng.chance(80) {
+        rng.below(bound)
+    } else {
+        rng.below(256)
+    }
+}
+
+/// A step for any state: the numbers are often those of the state.
+pub fn step_for(rng: &mut Prng, state: &State) -> Step {
+    let mut profile = Profile {
+        players: PLAYERS as u8,
+        window: Range::new(0, ENTRIES as u16),
+        weights: WEIGHTS,
+        whole: 5,
+        by_owner: 80,
+        steady: 50,
+        stray: 20,
+        prompt: 10,
+        timeouts: 10,
+        reads: 10,
+        taken: Taken::Any,
+        longest_phase: 0,
+        phase: Phase::NONE,
+        previous: None,
+    };
+    profile.next_step(rng, state)
+}

@@ -1,0 +1,41 @@
+//! An independent model of document 01, "Guards, players and cached reads in a reel store".
+//!
+//! It is written from the text of the documents alone, so that the proved library can be compared
+//! with it: reply for reply, and word for word of both tables. Sentences of document 01 stand in
+//! quotation marks beside the code that does what they say; "reading n" is an item of the written
+//! readings of document 01.
+//!
+//! | document 01 | here |
+//! |---|---|
+//! | border, stretch | boundary, guard interval |
+//! | stamp, period | version, epoch |
+//! | a player's guard, remembered cell | held guard, cached value |
+//! | row in flight, waiting | request, pending |
+//! | arrived, given up, turned back | delivered, abandoned, rejected |
+//! | the line | linearization order |
+
+#![forbid(unsafe_code)]
+#![warn(missing_docs)]
+
+pub mod broken;
+pub mod claim;
+pub mod codec;
+pub mod faults;
+pub mod generate;
+pub mod ledger;
+pub mod lent;
+pub mod listing;
+pub mod prng;
+pub mod reply;
+pub mod request_words;
+pub mod rules;
+pub mod run;
+pub mod shrink;
+pub mod state;
+pub mod states;
+pub mod step;
+pub mod store;
+pub mod store_calls;
+pub mod table_rules;
+pub mod tables;
+pub mod trial;

@@ -1,0 +1,110 @@
+//! Replies and refusals.
+
+/// "A reply is a code and two numbers."
+#[derive(Clone, Copy, Debug, PartialEq, Eq, Hash)]
+pub struct Reply {
+    /// One of [`code`], or a refusal's number.
+    pub code: u32,
+    /// The first number.
+    pub a: u32,
+    /// The second number.
+    pub b: u32,
+}
+
+/// The codes of the section "Replies".
+pub mod code {
+    /// "0: done, zeros."
+    pub const DONE: u32 = 0;
+    /// "1: serial issued, 0."
+    pub const ISSUED: u32 = 1;
+    /// "2: read from memory, stamp, value."
+    pub const FROM_MEMORY: u32 = 2;
+    /// "3: read from the store, stamp, value."
+    pub const FROM_STORE: u32 = 3;
+    /// "4: committed, serial, value."
+    pub const COMMITTED: u32 = 4;
+    /// "5: turned back, serial, 0."
+    pub const REJECTED: u32 = 5;
+    /// "6: guard granted", with serial, 0.
+    pub const GRANTED: u32 = 6;
+    /// "7: not held", with serial, 0.
+    pub const NOT_HELD: u32 = 7;
+    /// "8: layout changed", with serial, 0.
+    pub const LAYOUT_CHANGED: u32 = 8;
+}
+
+impl Reply {
+    /// "0: done, zeros."
+    pub const DONE: Reply = Reply::new(code::DONE, 0, 0);
+
+    /// The reply with this code and these two numbers.
+    pub const fn new(code: u32, a: u32, b: u32) -> Reply {
+        Reply { code, a, b }
+    }
+
+    /// "A refusal gives its number and two zeros."
+    pub const fn refused(refusal: Refusal) -> Reply {
+        Reply::new(refusal.number(), 0, 0)
+    }
+
+    /// Whether the code is that of a refusal.
+    pub const fn is_refusal(self) -> bool {
+        self.code >= Refusal::TableLength.number()
+    }
+}
+
+/// "Who can cause a refusal": the listed numbers.
+#[derive(Clone, Copy, Debug, PartialEq, Eq, Hash, PartialOrd, Ord)]
+pub enum Refusal {
+    /// "21 a table of the wrong length"
+    TableLength = 21,
+    /// "22 a table that breaks a rule above"
+    TableRule = 22,
+    /// "23 mark wrong or missing"
+    SessionMark = 23,
+    /// "24 record cut short, or no byte"
+    RecordCut = 24,
+    /// "25 bit 6 or 7 set"
+    RecordBits = 25,
+    /// "26 kind not 1 to 13"
+    RecordKind = 26,
+    /// "27 kind missing, or other fields than the kind's"
+    RecordFields = 27,
+    /// "28 player above 7, low not below high, high above 256, or split or merge at entry 0";
+    /// for the store used alone also "a request's or write's serial of 0 or above" 4,000,000
+    Number = 28,
+    /// "29 not owner of every entry (steps 3, 5)"
+    NotOwner = 29,
+    /// "30 no live guard (step 5)"
+    NoLiveGuard = 30,
+    /// "31 a waiting guard request of this player shares an entry (step 3)"
+    GuardRequestPending = 31,
+    /// "32 no row that this step fits"
+    NoRequest = 32,
+    /// "33 a row is needed and all 64 are taken"
+    RequestsFull = 33,
+    /// "34 a serial is needed and none is left"
+    SerialsSpent = 34,
+    /// "35 split at a border, merge where none is"
+    Boundary = 35,
+    /// "36 a buffer shorter than the record to be written"
+    BufferShort = 36,
+    /// "37 longer than 16,384 bytes"
+    SessionLong = 37,
+}
+
+impl Refusal {
+    /// The refusal's number in document 01.
+    pub const fn number(self) -> u32 {
+        self as u32
+    }
+}
+
+impl From<Result<Reply, Refusal>> for Reply {
+    fn from(result: Result<Reply, Refusal>) -> Reply {
+        match result {
+            Ok(reply) => reply,
+            Err(refusal) => Reply::refused(refusal),
+        }
+    }
+}

@@ -1,0 +1,469 @@
+//! The thirteen steps on a state that keeps the table rules.
+//!
+//! "For a step: 21, 22, 28, 29, 30, 31, 32, 35, 33, 34." The first two belong to the tables of
+//! words (see `tables`); the others are tested here in this order, and a refused step changes
+//! nothing.
+
+use crate::faults::{Fault, NoFault, Switches};
+use crate::reply::{code, Refusal, Reply};
+use crate::state::{
+    Cached, Operation, Request, State, ENTRIES, MAX_REQUESTS, MAX_SERIAL, NOBODY, PLAYERS,
+};
+use crate::step::{Range, Step};
+use crate::store::{GuardOutcome, Versioned, WriteOutcome};
+
+/// One step by the right rules.
+pub fn step(state: &mut State, step: Step) -> Reply {
+    step_with(state, step, &NoFault)
+}
+
+/// One step by the rules with these faults.
+pub fn step_with(state: &mut State, step: Step, faults: &impl Switches) -> Reply {
+    Reply::from(perform(state, step, faults))
+}
+
+fn perform(state: &mut State, step: Step, faults: &impl Switches) -> Result<Reply, Refusal> {
+    test_numbers(step)?;
+    match step {
+        Step::Assign { player, range } => set_owner(state, player, range),
+        Step::Release { range } => set_owner(state, NOBODY, range),
+        Step::RequestGuard { player, range } => request_guard(state, player, range, faults),
+        Step::Read { player, entry } => read(state, player, entry, faults),
+        Step::Write {
+            player,
+            entry,
+            value,
+        } => write(state, player, entry, value, faults),
+        Step::Deliver { serial } => deliver(state, serial, faults),
+        Step::Respond { serial } => respond(state, serial, faults),
+        Step::Abandon { serial } => abandon(state, serial, faults),
+        Step::Lose { serial } => lose(state, serial),
+        Step::Split { entry } => state.store.split(entry, faults).map(|()| Reply::DONE),
+        Step::Merge { entry } => state.store.merge(entry).map(|()| Reply::DONE),
+        Step::RestartTablet { entry } => {
+            state.store.restart(entry, faults);
+            Ok(Reply::DONE)
+        }
+        Step::RestartPlayer { player } => restart_player(state, player, faults),
+    }
+}
+
+/// "28 player above 7, low not below high, high above 256, or split or merge at entry 0".
+fn test_numbers(step: Step) -> Result<(), Refusal> {
+    let good = match step {
+        Step::Assign { player, range } | Step::RequestGuard { player, range } => {
+            is_player(player) && range.is_valid()
+        }
+        Step::Release { range } => range.is_valid(),
+        Step::Read { player, .. } | Step::Write { player, .. } | Step::RestartPlayer { player } => {
+            is_player(player)
+        }
+        Step::Split { entry } | Step::Merge { entry } => entry != 0,
+        Step::Deliver { .. }
+        | Step::Respond { .. }
+        | Step::Abandon { .. }
+        | Step::Lose { .. }
+        | Step::RestartTablet { .. } => true,
+    };
+    good.then_some(()).ok_or(Refusal::Number)
+}
+
+fn is_player(player: u8) -> bool {
+    usize::from(player) < PLAYERS
+}
+
+/// The serial that is issued next; "34 a serial is needed and none is left".
+fn next_serial(state: &State) -> Result<u32, Refusal> {
+    if state.last_serial >= MAX_SERIAL {
+        return Err(Refusal::SerialsSpent);
+    }
+    Ok(state.last_serial + 1)
+}
+
+/// The serial of the next request; "33 a row is needed and all 64 are taken" comes before 34.
+fn next_request(state: &State) -> Result<u32, Refusal> {
+    if state.requests.len() >= MAX_REQUESTS {
+        return Err(Refusal::RequestsFull);
+    }
+    next_serial(state)
+}
+
+/// Puts a new request last: its serial is the highest, so the serials keep rising.
+fn send(state: &mut State, serial: u32, player: u8, operation: Operation) -> Reply {
+    state.last_serial = state.last_serial.max(serial);
+    state.requests.push(Request {
+        serial,
+        player,
+        abandoned: false,
+        operation,
+    });
+    Reply::new(code::ISSUED, serial, 0)
+}
+
+/// "1 assign, 2 release: take a serial, set owner (8 for release) and period over the range."
+fn set_owner(state: &mut State, owner: u8, range: Range) -> Result<Reply, Refusal> {
+    let serial = next_serial(state)?;
+    state.last_serial = serial;
+    state.owners[range.entries()].fill(owner);
+    state.epochs[range.entries()].fill(serial);
+    Ok(Reply::new(code::ISSUED, serial, 0))
+}
+
+fn owns(state: &State, player: u8, range: Range) -> bool {
+    state.owners[range.entries()]
+        .iter()
+        .all(|&owner| owner == player)
+}
+
+/// "A player's guard for an entry is *live* when it is not 0, the player owns the entry, and the
+/// entry's period is below the guard." The guard if it is live.
+fn live_guard(state: &State, player: u8, entry: u8, faults: &impl Switches) -> Option<u32> {
+    let at = usize::from(entry);
+    let guard = state.held[usize::from(player)][at];
+    let current = state.epochs[at] < guard || faults.has(Fault::LateGuardGranted);
+    (guard != 0 && state.owners[at] == player && current).then_some(guard)
+}
+
+/// "Clearing a guard empties that cell too."
+fn clear(state: &mut State, player: u8, entry: usize) {
+    state.held[usize::from(player)][entry] = 0;
+    state.cached[usize::from(player)][entry] = Cached::EMPTY;
+}
+
+/// "every entry where the player has that guard is cleared". Reading 12: all 256 entries, owned
+/// or not, live or not.
+fn clear_guard(state: &mut State, player: u8, guard: u32) {
+    for entry in 0..ENTRIES {
+        if state.held[usize::from(player)][entry] == guard {
+            clear(state, player, entry);
+        }
+    }
+}
+
+/// "3 ask for a guard: the player must own every entry of the range. Its guards there are cleared.
+/// The row's serial is the guard number."
+fn request_guard(
+    state: &mut State,
+    player: u8,
+    range: Range,
+    faults: &impl Switches,
+) -> Result<Reply, Refusal> {
+    if !owns(state, player, range) {
+        return Err(Refusal::NotOwner);
+    }
+    let shares = |request: &Request| {
+        request.player == player
+            && request.is_pending()
+            && matches!(request.operation, Operation::Guard { range: other, .. } if other.shares(range))
+    };
+    if state.requests.iter().any(shares) && !faults.has(Fault::SharedGuardRequests) {
+        return Err(Refusal::GuardRequestPending);
+    }
+    let mut serial = next_request(state)?;
+    if faults.has(Fault::GuardRequestResent) {
+        serial = abandoned_guard(state, player, range).unwrap_or(serial);
+    }
+    if !faults.has(Fault::RequestKeepsGuards) {
+        for entry in range.entries() {
+            clear(state, player, entry);
+        }
+    }
+    let operation = Operation::Guard {
+        range,
+        outcome: None,
+    };
+    Ok(send(state, serial, player, operation))
+}
+
+/// For [`Fault::GuardRequestResent`]: the number under which this request was sent before.
+fn abandoned_guard(state: &State, player: u8, range: Range) -> Option<u32> {
+    let resent = |request: &&Request| {
+        request.player == player
+            && request.abandoned
+            && matches!(request.operation, Operation::Guard { range: other, .. } if other == range)
+    };
+    state.requests.iter().find(resent).map(|r| r.serial)
+}
+
+/// "4 read: if the cell is full, its guard equals the player's guard and that is live, the reply
+/// comes from memory and nothing is altered. Otherwise a row, carrying the live guard or 0,
+/// overlapped if a write by this player on this entry waits. Any player may read."
+fn read(
+    state: &mut State,
+    player: u8,
+    entry: u8,
+    faults: &impl Switches,
+) -> Result<Reply, Refusal> {
+    let cached = state.cached[usize::from(player)][usize::from(entry)];
+    let held = state.held[usize::from(player)][usize::from(entry)];
+    let live = live_guard(state, player, entry, faults);
+    let usable = live.is_some() || faults.has(Fault::CacheHitIgnoresLiveness);
+    if cached.guard != 0 && cached.guard == held && usable {
+        return Ok(Reply::new(code::FROM_MEMORY, cached.version, cached.value));
+    }
+    let serial = next_request(state)?;
+    let overlapped = state
+        .requests
+        .iter()
+        .any(|r| r.player == player && r.is_pending() && r.writes(entry));
+    let operation = Operation::Read {
+        entry,
+        guard: live.unwrap_or(0),
+        overlapped: overlapped && !faults.has(Fault::ReadBesideWriteCached),
+        outcome: None,
+    };
+    Ok(send(state, serial, player, operation))
+}
+
+/// "5 write: needs ownership and a live guard, which it carries. Empties the cell; marks this
+/// player's waiting reads and writes on the entry overlapped; is itself overlapped if one of them
+/// was a write."
+fn write(
+    state: &mut State,
+    player: u8,
+    entry: u8,
+    value: u32,
+    faults: &impl Switches,
+) -> Result<Reply, Refusal> {
+    if state.owners[usize::from(entry)] != player {
+        return Err(Refusal::NotOwner);
+    }
+    let guard = match live_guard(state, player, entry, faults) {
+        Some(guard) => guard,
+        None if faults.has(Fault::UnguardedWrite) => 0,
+        None => return Err(Refusal::NoLiveGuard),
+    };
+    let serial = next_request(state)?;
+    if !faults.has(Fault::WriteKeepsCachedValue) {
+        state.cached[usize::from(player)][usize::from(entry)] = Cached::EMPTY;
+    }
+    let crosses = mark_overlapped(state, player, entry, faults);
+    let operation = Operation::Write {
+        entry,
+        value,
+        guard,
+        overlapped: crosses && !faults.has(Fault::CrossingWriteCached),
+        outcome: None,
+    };
+    Ok(send(state, serial, player, operation))
+}
+
+/// Marks "this player's waiting reads and writes on the entry overlapped"; whether "one of them
+/// was a write".
+fn mark_overlapped(state: &mut State, player: u8, on: u8, faults: &impl Switches) -> bool {
+    let mut crosses = false;
+    let pending = |r: &&mut Request| r.player == player && r.is_pending();
+    for request in state.requests.iter_mut().filter(pending) {
+        match &mut request.operation {
+            Operation::Read {
+                entry, overlapped, ..
+            } if *entry == on => {
+                *overlapped |= !faults.has(Fault::CrossedReadCached);
+            }
+            Operation::Write {
+                entry, overlapped, ..
+            } if *entry == on => {
+                *overlapped |= !faults.has(Fault::CrossedWriteCached);
+                crosses = true;
+            }
+            _ => {}
+        }
+    }
+    crosses
+}
+
+/// The place of the request that a step fits, else "32 no row that this step fits". Serials are
+/// unique; only [`Fault::GuardRequestResent`] makes two alike, and then the later one is taken.
+fn find(state: &State, serial: u32, fits: impl Fn(&Request) -> bool) -> Result<usize, Refusal> {
+    state
+        .requests
+        .iter()
+        .rposition(|request| request.serial == serial && fits(request))
+        .ok_or(Refusal::NoRequest)
+}
+
+/// "6 arrive at the store." A row "6 not arrived" is needed. "A given-up row then leaves."
+fn deliver(state: &mut State, serial: u32, faults: &impl Switches) -> Result<Reply, Refusal> {
+    let fits = |r: &Request| !r.is_delivered() || faults.has(Fault::DeliveredTwice);
+    let place = find(state, serial, fits)?;
+    let mut request = state.requests[place];
+    match &mut request.operation {
+        Operation::Guard { range, outcome } => {
+            *outcome = Some(state.store.set_guard(*range, serial, faults));
+        }
+        Operation::Read { entry, outcome, .. } => {
+            let mut held = state.store.read(*entry);
+            if faults.has(Fault::ReadMissesWrite) && find(state, held.version, |_| true).is_ok() {
+                held = Versioned {
+                    version: 0,
+                    value: 0,
+                };
+            }
+            *outcome = Some(held);
+        }
+        Operation::Write {
+            entry,
+            value,
+            guard,
+            outcome,
+            ..
+        } => {
+            *outcome = Some(state.store.write(*entry, serial, *value, *guard, faults));
+        }
+    }
+    if !request.abandoned {
+        state.requests[place] = request;
+    } else if !faults.has(Fault::AbandonedDeliveredTwice) {
+        state.requests.remove(place);
+    }
+    Ok(Reply::DONE)
+}
+
+/// "7 answer reaches the player; the row leaves." A row "7 arrived and waiting" is needed.
+fn respond(state: &mut State, serial: u32, faults: &impl Switches) -> Result<Reply, Refusal> {
+    let place = find(state, serial, |r| r.is_delivered() && r.is_pending())?;
+    let Request {
+        player, operation, ..
+    } = state.requests.remove(place);
+    match operation {
+        Operation::Guard {
+            range,
+            outcome: Some(outcome),
+        } => Ok(respond_guard(state, player, serial, range, outcome, faults)),
+        Operation::Read {
+            entry,
+            guard,
+            overlapped,
+            outcome: Some(Versioned { version, value }),
+        } => {
+            let answer = Cached {
+                guard,
+                version,
+                value,
+            };
+            cache(state, player, entry, overlapped, answer, faults);
+            Ok(Reply::new(code::FROM_STORE, version, value))
+        }
+        Operation::Write {
+            entry,
+            value,
+            guard,
+            overlapped,
+            outcome: Some(WriteOutcome::Committed),
+        } => {
+            let answer = Cached {
+                guard,
+                version: serial,
+                value,
+            };
+            cache(state, player, entry, overlapped, answer, faults);
+            Ok(Reply::new(code::COMMITTED, serial, value))
+        }
+        Operation::Write {
+            value,
+            guard,
+            outcome: Some(WriteOutcome::Rejected),
+            ..
+        } => {
+            if !faults.has(Fault::RejectedKeepsGuards) {
+                clear_guard(state, player, guard);
+            }
+            if faults.has(Fault::RejectedAnsweredCommitted) {
+                return Ok(Reply::new(code::COMMITTED, serial, value));
+            }
+            Ok(Reply::new(code::REJECTED, serial, 0))
+        }
+        Operation::Guard { outcome: None, .. }
+        | Operation::Read { outcome: None, .. }
+        | Operation::Write { outcome: None, .. } => Err(Refusal::NoRequest),
+    }
+}
+
+/// "Guard: if the player owns every entry with period below the serial, success sets its guards
+/// there, layout changed is said so; if not, 'not held', whatever the outcome."
+fn respond_guard(
+    state: &mut State,
+    player: u8,
+    serial: u32,
+    range: Range,
+    outcome: GuardOutcome,
+    faults: &impl Switches,
+) -> Reply {
+    let current = state.epochs[range.entries()]
+        .iter()
+        .all(|&epoch| epoch < serial)
+        || faults.has(Fault::LateGuardGranted)
+        || faults.has(Fault::GrantIgnoresEpochs);
+    if !(owns(state, player, range) && current) {
+        return Reply::new(code::NOT_HELD, serial, 0);
+    }
+    if outcome == GuardOutcome::LayoutChanged && !faults.has(Fault::GrantAfterLayoutChanged) {
+        return Reply::new(code::LAYOUT_CHANGED, serial, 0);
+    }
+    state.held[usize::from(player)][range.entries()].fill(serial);
+    Reply::new(code::GRANTED, serial, 0)
+}
+
+/// "Read, and write that committed: remembered if the carried guard is not 0, is the player's
+/// present guard, is live, and the row is not overlapped." Reading 9: an answer that is not cached
+/// leaves the cached value as it is.
+fn cache(
+    state: &mut State,
+    player: u8,
+    entry: u8,
+    overlapped: bool,
+    answer: Cached,
+    faults: &impl Switches,
+) {
+    let live = live_guard(state, player, entry, faults);
+    let present = answer.guard != 0 && live == Some(answer.guard);
+    if present && !overlapped && !faults.has(Fault::NeverCaches) {
+        state.cached[usize::from(player)][usize::from(entry)] = answer;
+    }
+}
+
+/// "8 give up: an arrived row leaves, another is marked. For a write the clearing is the same." A
+/// row "8 waiting" is needed.
+fn abandon(state: &mut State, serial: u32, faults: &impl Switches) -> Result<Reply, Refusal> {
+    let place = find(state, serial, Request::is_pending)?;
+    let request = state.requests[place];
+    if request.is_delivered() {
+        state.requests.remove(place);
+    } else {
+        state.requests[place].abandoned = true;
+    }
+    if let Operation::Write { guard, .. } = request.operation {
+        if !faults.has(Fault::AbandonKeepsGuards) {
+            clear_guard(state, request.player, guard);
+        }
+    }
+    Ok(Reply::DONE)
+}
+
+/// "9 lose: a given-up row leaves." A row "9 given up" is needed.
+fn lose(state: &mut State, serial: u32) -> Result<Reply, Refusal> {
+    let place = find(state, serial, |r| r.abandoned)?;
+    state.requests.remove(place);
+    Ok(Reply::DONE)
+}
+
+/// "13 player restart: its guards and cells are cleared, its waiting rows given up as in step 8."
+fn restart_player(state: &mut State, player: u8, faults: &impl Switches) -> Result<Reply, Refusal> {
+    if !faults.has(Fault::RestartPlayerKeepsGuards) {
+        for entry in 0..ENTRIES {
+            clear(state, player, entry);
+        }
+    }
+    let kept = |r: &Request| {
+        matches!(r.operation, Operation::Write { .. })
+            && faults.has(Fault::RestartPlayerKeepsWrites)
+    };
+    let given_up = |r: &Request| r.player == player && r.is_pending() && !kept(r);
+    state
+        .requests
+        .retain(|r| !(given_up(r) && r.is_delivered()));
+    for request in &mut state.requests {
+        request.abandoned |= given_up(request);
+    }
+    Ok(Reply::DONE)
+}

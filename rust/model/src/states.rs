@@ -1,0 +1,130 @@
+//! Random states that keep the table rules.
+
+use crate::prng::Prng;
+use crate::state::{Cached, Operation, Request, State, MAX_REQUESTS, MAX_SERIAL, PLAYERS};
+use crate::step::Range;
+use crate::store::{GuardOutcome, Versioned, WriteOutcome};
+
+/// A few serials that a table may hold: 0, the last one and some between.
+fn serial_pool(rng: &mut Prng, last_serial: u32) -> [u32; 8] {
+    let mut pool = [0; 8];
+    for serial in &mut pool[2..] {
+        *serial = rng.below(last_serial + 1);
+    }
+    pool[1] = last_serial;
+    pool
+}
+
+/// Fills some random ranges with values that are drawn anew for each.
+fn fill_ranges<T: Copy>(rng: &mut Prng, items: &mut [T], mut draw: impl FnMut(&mut Prng) -> T) {
+    let times = [0, 1, 3, 10, 300][rng.index(5)];
+    for _ in 0..times {
+        let longest = if times > 10 { 2 } else { items.len() as u32 };
+        let low = rng.index(items.len());
+        let high = (low + 1 + rng.below(longest) as usize).min(items.len());
+        let item = draw(rng);
+        items[low..high].fill(item);
+    }
+}
+
+/// Any state that keeps the table rules: also such as no list of steps leads to, full places,
+/// serials near the last one, 1 to 256 guard intervals.
+pub fn any_state(rng: &mut Prng) -> State {
+    let last_serial = match rng.below(5) {
+        0 => rng.below(4),
+        1 => rng.below(100),
+        2 => MAX_SERIAL - rng.below(4),
+        3 => MAX_SERIAL,
+        _ => rng.below(MAX_SERIAL + 1),
+    };
+    let pool = serial_pool(rng, last_serial);
+    let serial = |rng: &mut Prng| pool[rng.index(pool.len())];
+    let mut state = State::fresh();
+    state.last_serial = last_serial;
+    let boundaries = [0, 1, 10, 60][rng.index(4)];
+    for boundary in &mut state.store.boundaries[1..] {
+        *boundary = rng.chance(boundaries);
+    }
+    fill_ranges(rng, &mut state.store.guards, serial);
+    fill_ranges(rng, &mut state.store.versions, serial);
+    fill_ranges(rng, &mut state.store.values, Prng::word);
+    fill_ranges(rng, &mut state.owners, |rng| rng.below(9) as u8);
+    fill_ranges(rng, &mut state.epochs, serial);
+    for player in 0..PLAYERS {
+        fill_ranges(rng, &mut state.held[player], serial);
+        fill_ranges(rng, &mut state.cached[player], |rng| {
+            any_cached(rng, serial)
+        });
+    }
+    let count = [0, 2, 10, MAX_REQUESTS as u32 - 1, MAX_REQUESTS as u32][rng.index(5)];
+    for request in request_serials(rng, count, last_serial) {
+        let request = any_request(rng, request, serial);
+        state.requests.push(request);
+    }
+    state
+}
+
+fn any_cached(rng: &mut Prng, serial: impl Fn(&mut Prng) -> u32) -> Cached {
+    match serial(rng) {
+        0 => Cached::EMPTY,
+        guard => Cached {
+            guard,
+            version: serial(rng),
+            value: rng.word(),
+        },
+    }
+}
+
+/// Rising serials of at most this many requests, none above the last one issued.
+fn request_serials(rng: &mut Prng, count: u32, last_serial: u32) -> Vec<u32> {
+    let count = count.min(last_serial);
+    let spread = rng.between(1, (last_serial / count.max(1)).clamp(1, 1_000));
+    let mut serials: Vec<u32> = Vec::new();
+    let mut serial = last_serial;
+    while serials.len() < count as usize && serial > 0 {
+        serials.push(serial);
+        serial = serial.saturating_sub(rng.between(1, spread));
+    }
+    serials.reverse();
+    serials
+}
+
+fn any_request(rng: &mut Prng, own: u32, serial: impl Fn(&mut Prng) -> u32) -> Request {
+    let low = rng.below(256);
+    let range = Range::new(low as u8, rng.between(low + 1, 256) as u16);
+    let entry = [low as u8, 0, 1][rng.index(3)];
+    let below = |number: u32| if number < own { number } else { own - 1 };
+    let guard = below(serial(rng));
+    let overlapped = rng.chance(30);
+    let delivered = rng.chance(50);
+    let operation = match rng.below(3) {
+        0 => Operation::Guard {
+            range,
+            outcome: delivered
+                .then_some([GuardOutcome::Set, GuardOutcome::LayoutChanged][rng.index(2)]),
+        },
+        1 if guard != 0 => Operation::Write {
+            entry,
+            value: rng.word(),
+            guard,
+            overlapped,
+            outcome: delivered
+                .then_some([WriteOutcome::Committed, WriteOutcome::Rejected][rng.index(2)]),
+        },
+        _ => Operation::Read {
+            entry,
+            guard,
+            overlapped,
+            outcome: delivered.then_some(Versioned {
+                version: serial(rng),
+                value: rng.word(),
+            }),
+        },
+    };
+    Request {
+        serial: own,
+        player: rng.below(PLAYERS as u32) as u8,
+        abandoned: !delivered && rng.chance(30),
+        operation,
+    }
+}

@@ -1,0 +1,155 @@
+//! The store's side: "borders, guards, stamps and values, with what step 6 does to them and steps
+//! 10 to 12".
+
+use crate::faults::{Fault, Switches};
+use crate::reply::Refusal;
+use crate::state::ENTRIES;
+use crate::step::Range;
+
+/// An entry's version and value.
+#[derive(Clone, Copy, Debug, PartialEq, Eq)]
+pub struct Versioned {
+    /// "the serial of the write that made it", 0 if there was none.
+    pub version: u32,
+    /// The value.
+    pub value: u32,
+}
+
+/// A guard request's outcome, "1 or 2 (set or layout changed...)".
+#[derive(Clone, Copy, Debug, PartialEq, Eq)]
+pub enum GuardOutcome {
+    /// The guard is set over the range.
+    Set = 1,
+    /// The range does not lie in one tablet; nothing is set.
+    LayoutChanged = 2,
+}
+
+/// A write's outcome, "1 or 2 (...committed or turned back)".
+#[derive(Clone, Copy, Debug, PartialEq, Eq)]
+pub enum WriteOutcome {
+    /// The value took effect.
+    Committed = 1,
+    /// The guard carried is not the entry's; nothing is changed.
+    Rejected = 2,
+}
+
+/// Boundaries, guards, versions and values.
+///
+/// The guards are kept entry by entry. Guard intervals with "neighbours never equal" and a first
+/// one at entry 0 are in one-to-one correspondence with such a list; `tables` converts.
+#[derive(Clone, Debug, PartialEq, Eq)]
+pub struct Store {
+    /// "borders: 1 where a tablet begins, else 0; entry 0's is 1"
+    pub boundaries: [bool; ENTRIES],
+    /// For each entry the guard of the interval that has it.
+    pub guards: [u32; ENTRIES],
+    /// "for each entry a stamp"
+    pub versions: [u32; ENTRIES],
+    /// "and value"
+    pub values: [u32; ENTRIES],
+}
+
+impl Store {
+    /// "one tablet, guard 0 everywhere, and zeros elsewhere"
+    pub fn fresh() -> Store {
+        let mut boundaries = [false; ENTRIES];
+        boundaries[0] = true;
+        Store {
+            boundaries,
+            guards: [0; ENTRIES],
+            versions: [0; ENTRIES],
+            values: [0; ENTRIES],
+        }
+    }
+
+    /// Reading 14: "In one tablet" means no boundary strictly inside (low, high).
+    pub fn in_one_tablet(&self, range: Range) -> bool {
+        !range.entries().skip(1).any(|entry| self.boundaries[entry])
+    }
+
+    /// The entries of the tablet containing the entry.
+    pub fn tablet(&self, entry: u8) -> std::ops::Range<usize> {
+        let entry = usize::from(entry);
+        let begin = (0..=entry).rev().find(|&e| self.boundaries[e]);
+        let end = (entry + 1..ENTRIES).find(|&e| self.boundaries[e]);
+        begin.unwrap_or(0)..end.unwrap_or(ENTRIES)
+    }
+
+    /// "Guard request: if the range lies in one tablet the guard is set over it, else the outcome
+    /// is 'layout changed' and nothing is set."
+    pub fn set_guard(&mut self, range: Range, guard: u32, faults: &impl Switches) -> GuardOutcome {
+        if self.in_one_tablet(range) || faults.has(Fault::GuardSetAcrossBoundary) {
+            self.guards[range.entries()].fill(guard);
+            return GuardOutcome::Set;
+        }
+        if faults.has(Fault::GuardCutToTablet) {
+            let end = range.entries().end.min(self.tablet(range.low).end);
+            self.guards[usize::from(range.low)..end].fill(guard);
+            return GuardOutcome::Set;
+        }
+        GuardOutcome::LayoutChanged
+    }
+
+    /// "Read: outcome is stamp and value."
+    pub fn read(&self, entry: u8) -> Versioned {
+        Versioned {
+            version: self.versions[usize::from(entry)],
+            value: self.values[usize::from(entry)],
+        }
+    }
+
+    /// "Write: commits if the carried guard equals the entry's guard, which 0 never does, else is
+    /// turned back."
+    pub fn write(
+        &mut self,
+        entry: u8,
+        serial: u32,
+        value: u32,
+        guard: u32,
+        faults: &impl Switches,
+    ) -> WriteOutcome {
+        let entry = usize::from(entry);
+        let equal = guard == self.guards[entry] || faults.has(Fault::StoreIgnoresGuard);
+        let guarded =
+            guard != 0 || faults.has(Fault::ZeroGuardCommits) || faults.has(Fault::UnguardedWrite);
+        if !(equal && guarded) {
+            return WriteOutcome::Rejected;
+        }
+        self.versions[entry] = serial;
+        self.values[entry] = value;
+        WriteOutcome::Committed
+    }
+
+    /// "10 split, 11 merge: a border before the entry is set or removed; guards stay." "35 split
+    /// at a border".
+    pub fn split(&mut self, entry: u8, faults: &impl Switches) -> Result<(), Refusal> {
+        if self.boundaries[usize::from(entry)] {
+            return Err(Refusal::Boundary);
+        }
+        if faults.has(Fault::SplitRestartsTablet) {
+            let tablet = self.tablet(entry);
+            self.guards[tablet].fill(0);
+        }
+        self.boundaries[usize::from(entry)] = true;
+        Ok(())
+    }
+
+    /// "10 split, 11 merge: a border before the entry is set or removed; guards stay." "35 ...
+    /// merge where none is".
+    pub fn merge(&mut self, entry: u8) -> Result<(), Refusal> {
+        if !self.boundaries[usize::from(entry)] {
+            return Err(Refusal::Boundary);
+        }
+        self.boundaries[usize::from(entry)] = false;
+        Ok(())
+    }
+
+    /// "12 tablet restart: the guards of the tablet containing the entry become 0."
+    pub fn restart(&mut self, entry: u8, faults: &impl Switches) {
+        if faults.has(Fault::RestartTabletKeepsGuards) {
+            return;
+        }
+        let tablet = self.tablet(entry);
+        self.guards[tablet].fill(0);
+    }
+}

@@ -1,0 +1,178 @@
+//! Every fault is caught: by demand 3 on a generated list, or, where demand 3 lets it by, only by
+//! comparison with the right rules.
+
+use model::codec::session_text;
+use model::faults::{Fault, NoFault};
+use model::generate::Profile;
+use model::prng::Prng;
+use model::rules::{step, step_with};
+use model::state::State;
+use model::step::Range;
+use model::store_calls;
+use model::tables::STORE_WORDS;
+use model::trial::{play, search};
+
+use crate::support::*;
+
+/// The seed of the random lists: `FAMDRIZE_SEED`, 4 if not set. With 4 every fault that breaks
+/// demand 3 is found within 900,000 steps; with other seeds the rarest one takes some millions.
+fn seed() -> u64 {
+    std::env::var("FAMDRIZE_SEED")
+        .ok()
+        .and_then(|text| text.parse().ok())
+        .unwrap_or(4)
+}
+
+/// The faults that break demand 3, each with the number of random steps it took, the sentence that
+/// fails and the shortest list found, printed as a session.
+#[test]
+fn caught_by_demand_3() {
+    for fault in Fault::ALL.into_iter().filter(|f| f.breaks_demand_3()) {
+        let found = search(seed(), 40_000_000, &fault);
+        let found = found.unwrap_or_else(|| panic!("{fault:?} is not caught"));
+        println!(
+            "{fault:?}: {:?} fails after {} steps, shortest list {} steps\n    {}",
+            found.violation.sentence,
+            found.after,
+            found.steps.len(),
+            session_text(&found.steps)
+        );
+        let (right, state) = play(&found.steps, &NoFault);
+        assert_eq!(model::claim::check(&right, &state.store), Ok(()));
+    }
+}
+
+/// The faults that demand 3 lets by: no list breaks it, and some list gives another reply or other
+/// tables than the right rules do.
+#[test]
+fn caught_by_comparison_only() {
+    for fault in Fault::ALL.into_iter().filter(|f| !f.breaks_demand_3()) {
+        assert!(search(seed(), 200_000 * scale(), &fault).is_none());
+        if fault == Fault::ZeroGuardCommits {
+            continue;
+        }
+        let after = differs_after(fault).unwrap_or_else(|| panic!("{fault:?} changes nothing"));
+        println!("{fault:?}: differs from the right rules after {after} steps");
+    }
+}
+
+/// Plays random lists by the right rules and with the fault, until a reply or the state differs.
+fn differs_after(fault: Fault) -> Option<usize> {
+    let mut rng = Prng::new(seed());
+    let mut played = 0;
+    while played < 1_000_000 {
+        let mut profile = Profile::draw(&mut rng);
+        let (mut right, mut wrong) = (State::fresh(), State::fresh());
+        for _ in 0..100 {
+            let next = profile.next_step(&mut rng, &right);
+            played += 1;
+            let replies = (step(&mut right, next), step_with(&mut wrong, next, &fault));
+            if replies.0 != replies.1 || right != wrong {
+                return Some(played);
+            }
+        }
+    }
+    None
+}
+
+/// Step 5 sends no write that carries 0, so only the store used alone shows this fault.
+#[test]
+fn zero_guard_at_the_store() {
+    let commits = |faults: Option<Fault>| {
+        let mut words = vec![0; STORE_WORDS];
+        store_calls::fresh(&mut words);
+        store_calls::write_with(&mut words, 3, 1, 7, 0, &faults)
+    };
+    assert_eq!(commits(None), reply(0, 2, 0));
+    assert_eq!(commits(Some(Fault::ZeroGuardCommits)), reply(0, 1, 0));
+}
+
+/// The four of "What students build", each on the list that shows it.
+#[test]
+fn what_students_build() {
+    let stale = |fault: Fault, steps: &[_], stale_reply| {
+        let (history, state) = play(steps, &fault);
+        assert_eq!(history[steps.len() - 1].reply, stale_reply, "{fault:?}");
+        assert!(model::claim::check(&history, &state.store).is_err());
+        let right = last_reply(steps);
+        assert_ne!(right.code, 2, "{fault:?}: the right rules ask the store");
+    };
+    // "A read begun while a write waits, and then remembered."
+    let steps = then(&[
+        write(0, 45, 7),
+        read(0, 45),
+        deliver(4),
+        respond(4),
+        deliver(3),
+        read(0, 45),
+    ]);
+    stale(Fault::ReadBesideWriteCached, &steps, reply(2, 0, 0));
+    // "A guard granted late to a player that lost the range and has it back."
+    let steps = [
+        assign(0, 40, 60),
+        ask(0, 40, 60),
+        deliver(2),
+        assign(1, 40, 60),
+        ask(1, 40, 60),
+        deliver(4),
+        respond(4),
+        write(1, 45, 7),
+        assign(0, 40, 60),
+        respond(2),
+        read(0, 45),
+        deliver(7),
+        respond(7),
+        deliver(5),
+        read(0, 45),
+    ];
+    stale(Fault::LateGuardGranted, &steps, reply(2, 0, 0));
+    // "Guards cleared on a turned-back write but left after a given-up one."
+    let steps = then(&[
+        write(0, 45, 7),
+        abandon(3),
+        read(0, 45),
+        deliver(4),
+        respond(4),
+        deliver(3),
+        read(0, 45),
+    ]);
+    stale(Fault::AbandonKeepsGuards, &steps, reply(2, 0, 0));
+    // "A write answer remembered though a second write crossed it."
+    let steps = then(&[
+        write(0, 45, 7),
+        write(0, 45, 8),
+        deliver(3),
+        deliver(4),
+        respond(3),
+        read(0, 45),
+    ]);
+    stale(Fault::CrossedWriteCached, &steps, reply(2, 3, 7));
+}
+
+/// The case that 31 is for: two guard requests of one player on an entry, delivered in one order
+/// and granted in the other, let a read be cached beside an abandoned write that still commits.
+#[test]
+fn shared_guard_requests() {
+    let range = Range::new(45, 46);
+    let steps = [
+        assign(0, 45, 46),
+        ask(0, range.low, range.high),
+        ask(0, range.low, range.high),
+        deliver(3),
+        deliver(2),
+        respond(2),
+        write(0, 45, 7),
+        abandon(4),
+        respond(3),
+        read(0, 45),
+        deliver(5),
+        respond(5),
+        deliver(4),
+        read(0, 45),
+    ];
+    let (history, state) = play(&steps, &Fault::SharedGuardRequests);
+    assert_eq!(history[13].reply, reply(2, 0, 0));
+    assert_eq!((state.store.versions[45], state.store.values[45]), (4, 7));
+    assert!(model::claim::check(&history, &state.store).is_err());
+    assert_eq!(replies(&steps)[2], refused(31));
+}

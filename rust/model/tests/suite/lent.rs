@@ -1,0 +1,63 @@
+//! Counting a player's pending requests in the lent list.
+
+use model::lent::{pending_requests, records};
+use model::request_words::RequestWords;
+use model::tables::tables_of;
+
+use crate::support::*;
+
+fn record(serial: u32, player: u32, abandoned: u32) -> RequestWords {
+    RequestWords {
+        serial,
+        player,
+        abandoned,
+        ..RequestWords::default()
+    }
+}
+
+/// "21 unless 64 places, then 28; nothing else is tested"
+#[test]
+fn refusals() {
+    for length in [0, 1, 63, 65] {
+        let list = vec![RequestWords::default(); length];
+        assert_eq!(pending_requests(&list, 8), refused(21));
+        assert_eq!(pending_requests(&list, 0), refused(21));
+    }
+    let list = vec![RequestWords::default(); 64];
+    assert_eq!(pending_requests(&list, 8), refused(28));
+    assert_eq!(pending_requests(&list, u32::MAX), refused(28));
+    assert_eq!(pending_requests(&list, 7), reply(0, 0, 0));
+}
+
+/// Reading 19: a place counts when its serial is not 0, its mark is not set, and its player is the
+/// one asked; the places may stand in any order.
+#[test]
+fn counts() {
+    let mut list = vec![record(0, 2, 0); 64];
+    list[5] = record(9, 2, 0);
+    list[6] = record(8, 2, 1);
+    list[7] = record(8, 3, 0);
+    list[63] = record(u32::MAX, 2, 0);
+    assert_eq!(pending_requests(&list, 2), reply(0, 2, 0));
+    assert_eq!(pending_requests(&list, 3), reply(0, 1, 0));
+    assert_eq!(pending_requests(&list, 4), reply(0, 0, 0));
+    assert_eq!(pending_requests(&[record(1, 7, 0); 64], 7), reply(0, 64, 0));
+}
+
+/// "*Waiting* means in flight and not given up": delivered requests count.
+#[test]
+fn of_a_table() {
+    let steps = [
+        read(0, 1),
+        read(0, 2),
+        read(1, 3),
+        read(0, 4),
+        deliver(1),
+        abandon(4),
+    ];
+    let (_, players) = tables_of(&state_after(&steps));
+    let list = records(&players).expect("the table has its length");
+    assert_eq!(pending_requests(&list, 0), reply(0, 2, 0));
+    assert_eq!(pending_requests(&list, 1), reply(0, 1, 0));
+    assert_eq!(records(&players[1..]), None);
+}

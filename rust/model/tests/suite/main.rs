@@ -1,0 +1,15 @@
+//! Tests of the model. What is expected is taken from the documents, never from the model's output.
+
+mod claim;
+mod codec;
+mod edges;
+mod faults;
+mod lent;
+mod listing;
+mod random;
+mod run;
+mod shrink;
+mod steps;
+mod store;
+mod support;
+mod tables;

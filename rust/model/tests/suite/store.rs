@@ -1,0 +1,133 @@
+//! The store used alone.
+
+use model::broken::break_rule;
+use model::prng::Prng;
+use model::reply::Reply;
+use model::step::Range;
+use model::store_calls::*;
+use model::table_rules::TableRule;
+use model::tables::STORE_WORDS;
+
+use crate::support::{range, refused, reply, scale};
+
+fn fresh_store() -> Vec<u32> {
+    let mut words = vec![7; STORE_WORDS];
+    assert_eq!(fresh(&mut words), reply(0, 0, 0));
+    words
+}
+
+/// Guards, writes and reads with the replies of reading 20.
+#[test]
+fn guards_and_writes() {
+    let mut words = fresh_store();
+    assert_eq!(words[0], 1);
+    assert_eq!(words[1..], [0; STORE_WORDS - 1]);
+    assert_eq!(set_guard(&mut words, range(40, 60), 2), reply(0, 1, 0));
+    assert_eq!(words[256..260], [0, 40, 60, 0]);
+    assert_eq!(words[512..516], [0, 2, 0, 0]);
+    assert_eq!(write(&mut words, 45, 3, 7, 2), reply(0, 1, 0));
+    assert_eq!(read(&words, 45), reply(0, 3, 7));
+    assert_eq!(write(&mut words, 45, 4, 8, 1), reply(0, 2, 0));
+    assert_eq!(read(&words, 45), reply(0, 3, 7));
+    // "the same write handed in twice may commit twice"
+    assert_eq!(write(&mut words, 45, 3, 7, 2), reply(0, 1, 0));
+    // "which 0 never does"
+    assert_eq!(write(&mut words, 39, 5, 9, 0), reply(0, 2, 0));
+    assert_eq!(read(&words, 39), reply(0, 0, 0));
+    // A guard carried is not tested.
+    assert_eq!(write(&mut words, 45, 6, 9, u32::MAX), reply(0, 2, 0));
+    assert_eq!(restart(&mut words, 200), reply(0, 0, 0));
+    assert_eq!(words[256..260], [0; 4]);
+    assert_eq!(write(&mut words, 45, 6, 9, 2), reply(0, 2, 0));
+    assert_eq!(check(&words), reply(0, 0, 0));
+}
+
+/// "if the range lies in one tablet the guard is set over it, else the outcome is 'layout changed'
+/// and nothing is set"
+#[test]
+fn tablets() {
+    let mut words = fresh_store();
+    assert_eq!(split(&mut words, 50), reply(0, 0, 0));
+    assert_eq!(split(&mut words, 50), refused(35));
+    let before = words.clone();
+    assert_eq!(set_guard(&mut words, range(49, 51), 1), reply(0, 2, 0));
+    assert_eq!(words, before);
+    assert_eq!(set_guard(&mut words, range(50, 256), 1), reply(0, 1, 0));
+    assert_eq!(set_guard(&mut words, range(0, 50), 1), reply(0, 1, 0));
+    assert_eq!(words[256..258], [0, 0], "neighbours never equal");
+    assert_eq!(merge(&mut words, 51), refused(35));
+    assert_eq!(merge(&mut words, 50), reply(0, 0, 0));
+    assert_eq!(merge(&mut words, 50), refused(35));
+}
+
+/// "there 4,000,000 stands for the last serial issued, and a request's or write's serial of 0 or
+/// above that is 28"
+#[test]
+fn numbers() {
+    let mut words = fresh_store();
+    let before = words.clone();
+    for serial in [0, 4_000_001, u32::MAX] {
+        let given = set_guard(&mut words, range(0, 1), serial);
+        assert_eq!(given, refused(28));
+        assert_eq!(write(&mut words, 0, serial, 1, 1), refused(28));
+    }
+    for bad in [range(5, 5), range(6, 5), range(0, 257)] {
+        assert_eq!(set_guard(&mut words, bad, 1), refused(28));
+    }
+    assert_eq!(split(&mut words, 0), refused(28));
+    assert_eq!(merge(&mut words, 0), refused(28));
+    assert_eq!(words, before);
+    let highest = set_guard(&mut words, range(0, 256), 4_000_000);
+    assert_eq!(highest, reply(0, 1, 0));
+    let given = write(&mut words, 255, 4_000_000, 5, 4_000_000);
+    assert_eq!(given, reply(0, 1, 0));
+    assert_eq!(check(&words), reply(0, 0, 0));
+    assert_eq!(check_at(&words, 3_999_999), refused(22));
+    assert_eq!(check_at(&words, 4_000_000), reply(0, 0, 0));
+    words[1_023] = 4_000_001;
+    assert_eq!(check(&words), refused(22));
+}
+
+type Call = fn(&mut [u32]) -> Reply;
+
+/// The calls with numbers that are 28 where they can be.
+const CALLS: [Call; 7] = [
+    |words| check(words),
+    |words| set_guard(words, Range::new(5, 5), 0),
+    |words| read(words, 0),
+    |words| write(words, 0, 0, 0, 0),
+    |words| split(words, 0),
+    |words| merge(words, 0),
+    |words| restart(words, 0),
+];
+
+/// 21, then 22, before all else; no word is changed.
+#[test]
+fn lengths_and_rules() {
+    let rules = [
+        TableRule::BoundaryBit,
+        TableRule::FirstBoundary,
+        TableRule::FirstInterval,
+        TableRule::IntervalOrder,
+        TableRule::IntervalEntry,
+        TableRule::IntervalNeighbours,
+        TableRule::IntervalUnused,
+    ];
+    let mut rng = Prng::new(6);
+    for call in CALLS {
+        for length in [0, STORE_WORDS - 1, STORE_WORDS + 1] {
+            let mut words = vec![9; length];
+            assert_eq!(call(&mut words), refused(21));
+            assert_eq!(words, vec![9; length]);
+        }
+        for rule in rules {
+            for _ in 0..10 * scale() {
+                let (mut words, _) = break_rule(&mut rng, rule);
+                let before = words.clone();
+                assert_eq!(call(&mut words), refused(22), "{rule:?}");
+                assert_eq!(words, before);
+            }
+        }
+    }
+    assert_eq!(fresh(&mut [0; 3]), refused(21));
+}

@@ -1,0 +1,195 @@
+//! The two tables: fresh ones, what is allowed, and each rule broken alone.
+
+use model::broken::{break_rule, rich_state};
+use model::prng::Prng;
+use model::state::{Cached, State, MAX_SERIAL};
+use model::states::any_state;
+use model::table_rules::{TableError, TableRule};
+use model::tables::*;
+
+use crate::support::*;
+
+/// "Fresh tables have owner 8, one tablet, guard 0 everywhere, and zeros elsewhere."
+#[test]
+fn fresh() {
+    let (store, players) = fresh_tables();
+    assert_eq!((store.len(), players.len()), (1_280, 9_473));
+    for (at, &word) in store.iter().enumerate() {
+        assert_eq!(word, u32::from(at == 0), "store {at}");
+    }
+    for (at, &word) in players.iter().enumerate() {
+        let owner = (1..257).contains(&at);
+        assert_eq!(word, if owner { 8 } else { 0 }, "players {at}");
+    }
+    assert_eq!(check(&store, &players), reply(0, 0, 0));
+    let mut used = (vec![7; 1_280], vec![7; 9_473]);
+    let given = model::tables::fresh(&mut used.0, &mut used.1);
+    assert_eq!(given, reply(0, 0, 0));
+    assert_eq!(used, (store, players));
+}
+
+/// "Making tables fresh tests 21 only." A refusal alters nothing.
+#[test]
+fn fresh_of_the_wrong_length() {
+    for (store, players) in [(1_279, 9_473), (1_281, 9_473), (1_280, 9_472), (0, 0)] {
+        let mut tables = (vec![7; store], vec![7; players]);
+        let given = model::tables::fresh(&mut tables.0, &mut tables.1);
+        assert_eq!(given, refused(21));
+        assert_eq!(tables, (vec![7; store], vec![7; players]));
+    }
+}
+
+/// 21 comes before 22, for either table.
+#[test]
+fn lengths_first() {
+    let (store, players) = fresh_tables();
+    let bad_store = vec![2; STORE_WORDS];
+    let bad_players = vec![u32::MAX; PLAYERS_WORDS];
+    assert_eq!(check(&store[1..], &players), refused(21));
+    assert_eq!(check(&store, &players[1..]), refused(21));
+    assert_eq!(check(&bad_store, &players[1..]), refused(21));
+    assert_eq!(check(&store[1..], &bad_players), refused(21));
+    assert_eq!(check(&bad_store, &players), refused(22));
+    assert_eq!(check(&store, &bad_players), refused(22));
+}
+
+/// The words of the worked session's tables after its fifth step, by hand.
+#[test]
+fn words_by_hand() {
+    let state = state_after(&then(&[write(0, 45, 7)]));
+    let (store, players) = tables_of(&state);
+    let (mut expected_store, mut expected) = fresh_tables();
+    expected_store[256..259].copy_from_slice(&[0, 40, 60]);
+    expected_store[512..515].copy_from_slice(&[0, 2, 0]);
+    expected[0] = 3;
+    expected[1 + 40..1 + 60].fill(0);
+    expected[257 + 40..257 + 60].fill(1);
+    expected[513 + 40..513 + 60].fill(2);
+    expected[8_705..8_717].copy_from_slice(&[3, 0, 5, 45, 0, 7, 2, 0, 0, 0, 0, 0]);
+    assert_eq!(store, expected_store);
+    assert_eq!(players, expected);
+}
+
+/// "neighbours never equal (so 1 to 256 of them)": 256 intervals fill both columns.
+#[test]
+fn most_intervals() {
+    let mut state = State::fresh();
+    state.last_serial = 2;
+    for (entry, guard) in state.store.guards.iter_mut().enumerate() {
+        *guard = 1 + entry as u32 % 2;
+    }
+    let (store, players) = tables_of(&state);
+    for entry in 0..256 {
+        assert_eq!(store[256 + entry], entry as u32);
+        assert_eq!(store[512 + entry], 1 + entry as u32 % 2);
+    }
+    assert_eq!(decode(&store, &players), Ok(state));
+}
+
+/// Each rule broken alone gives 22, and it is that rule.
+#[test]
+fn each_rule_broken_alone() {
+    let mut rng = Prng::new(22);
+    for rule in TableRule::ALL {
+        for _ in 0..40 * scale() {
+            let (store, players) = break_rule(&mut rng, rule);
+            assert_eq!(decode(&store, &players), Err(TableError::Rule(rule)));
+            assert_eq!(check(&store, &players), refused(22));
+        }
+    }
+}
+
+/// The tables that [`break_rule`] begins with keep all rules.
+#[test]
+fn unbroken() {
+    let mut rng = Prng::new(23);
+    for _ in 0..100 * scale() {
+        let state = rich_state(&mut rng);
+        let (store, players) = tables_of(&state);
+        assert_eq!(check(&store, &players), reply(0, 0, 0));
+        assert_eq!(decode(&store, &players), Ok(state));
+    }
+}
+
+/// Random states: encode, check and decode give the state back.
+#[test]
+fn round_trip() {
+    let mut rng = Prng::new(24);
+    for _ in 0..500 * scale() {
+        let state = any_state(&mut rng);
+        let (store, players) = tables_of(&state);
+        assert_eq!(decode(&store, &players), Ok(state));
+    }
+}
+
+/// Tables of random words that pass the check are those that encoding gives back: no second table
+/// holds the same state. Changing one word of a good table does both.
+#[test]
+fn one_table_for_a_state() {
+    let mut rng = Prng::new(25);
+    let mut passed = 0;
+    for _ in 0..500 * scale() {
+        let (mut store, mut players) = tables_of(&any_state(&mut rng));
+        let word = rng.word();
+        if rng.chance(30) {
+            store[rng.index(STORE_WORDS)] = word;
+        } else {
+            players[rng.index(PLAYERS_WORDS)] = word;
+        }
+        if let Ok(state) = decode(&store, &players) {
+            passed += 1;
+            assert_eq!(tables_of(&state), (store, players));
+        }
+    }
+    assert!(passed > 50, "values may be any number");
+}
+
+/// Readings 1 and 2: what is allowed though no list of steps leads there.
+#[test]
+fn allowed() {
+    let mut state = State::fresh();
+    state.last_serial = 9;
+    state.store.values[3] = 5;
+    state.owners[4] = 7;
+    state.cached[2][5] = Cached {
+        guard: 3,
+        version: 0,
+        value: 8,
+    };
+    state.held[0][6] = 4;
+    state.held[1][6] = 4;
+    state.store.versions[7] = 9;
+    let (store, mut players) = tables_of(&state);
+    // A delivered read whose version is above its own serial, and two guard requests that share.
+    let requests = [
+        [1, 0, 3, 2, 9, 0, 0, 0, 0, 0, 0, 0],
+        [2, 0, 3, 2, 9, 0, 0, 0, 1, 0, 1, 0],
+        [3, 1, 4, 255, 0, 0, 0, 1, 1, 0, 9, 77],
+        [4, 7, 5, 0, 0, u32::MAX, 3, 1, 0, 1, 0, 0],
+    ];
+    players[REQUESTS..REQUESTS + 48].copy_from_slice(requests.as_flattened());
+    assert_eq!(check(&store, &players), reply(0, 0, 0));
+    let held = decode(&store, &players).expect("it keeps the rules");
+    assert_eq!(tables_of(&held), (store, players));
+}
+
+/// The greatest numbers that the rules allow, and one more.
+#[test]
+fn greatest_numbers() {
+    let good = |at: usize, word: u32| {
+        let (store, mut players) = fresh_tables();
+        players[0] = MAX_SERIAL;
+        players[at] = word;
+        check(&store, &players) == reply(0, 0, 0)
+    };
+    assert!(good(0, MAX_SERIAL));
+    assert!(!good(0, MAX_SERIAL + 1));
+    for at in [EPOCHS, EPOCHS + 255, HELD_GUARDS, HELD_GUARDS + 2_047] {
+        assert!(good(at, MAX_SERIAL));
+        assert!(!good(at, MAX_SERIAL + 1));
+    }
+    for at in [OWNERS, OWNERS + 255] {
+        assert!(good(at, 8));
+        assert!(!good(at, 9));
+    }
+}
