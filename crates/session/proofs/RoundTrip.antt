@@ -1,6 +1,6 @@
 -- What was written reads back as the same step, and the bytes that are accepted for a step are the only ones for it.
 -- Assumes nothing.
-use mathlib.Core.Path.{_≡_, _∙_, refl, sym, ap}
+use mathlib.Core.Path.{_≡_, _∙_, refl, sym, ap, subst}
 use mathlib.Core.List.{List, [], _∷_, _++_}
 use Prim.Native.Nat.{ℕ, _%_, _≤_}
 use native.Mathlib.Omega.{arith}
@@ -9,13 +9,14 @@ use lib.ListN.{length, getD, take, drop, length-append}
 use lib.Seq.{take-add, length-take-le}
 use borrow.Author.Tests.{eq-eqb}
 use Rattle.players.specs.declared.Step.{Step}
+use Rattle.players.proofs.Kept.{Fits}
 use Rattle.session.specs.Layout.{widths, record-length, fields-length, fields, field-bytes, map-of}
 use Rattle.session.specs.declared.Decoded.{Decoded}
 use Rattle.session.specs.declared.Decoded.the-variants.{Record, Refused}
 use Rattle.session.specs.Records.{kind-and-fields, kind, step-of, map-at, kind-at, fields-at, tested, decode, Numbers, taken, refused, Decodes, encode, Bytes}
 use Rattle.session.proofs.Tested.{Accepted, accepted, Outcome, refuses, accepts, outcome}
 use Rattle.session.proofs.FieldLaws.{length-fields, fields-back, field-bytes-back}
-use Rattle.session.proofs.StepLaws.{Known, known, kind-map, Reads, reads}
+use Rattle.session.proofs.StepLaws.{known, kind-map, Reads, reads, fits-read}
 
 -- ---- what was written
 
@@ -114,3 +115,11 @@ module _ (s : List ℕ) (x : Step) (n : ℕ) (b : Bytes s) (h : decode s ≡ Rec
 
   pub only-length : n ≡ length (encode x)
   only-length = sym (length-take-le n s (within s x n h .1)) ∙ ap length only-bytes
+
+  -- and its entries are bytes
+  pub decoded-fits : Fits x
+  decoded-fits =
+      let f = found s x n h in
+      let a = f .passed in
+      let k : step-of (kind-at s) (fields widths (map-of (kind-at s)) s 1) ≡ x = rw (← a .map) (f .step) in
+      subst Fits k (fits-read s b (kind-at s) (a .from) (a .to))

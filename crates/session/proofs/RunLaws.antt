@@ -77,7 +77,7 @@ written-session s xs budget places h hb hp =
 -- ---- the bytes that a run takes
 
 -- the bytes of a part are bytes
-bytes-drop : (n : ℕ) (part : List ℕ) → Bytes part → Bytes (drop n part)
+pub bytes-drop : (n : ℕ) (part : List ℕ) → Bytes part → Bytes (drop n part)
 unfolding Bytes
 bytes-drop n part b i = rw getD-drop (b (n + i))
 

@@ -10,8 +10,9 @@ use lib.Dec.{T, leb, lit≤, leb→le}
 use lib.ListN.{length}
 use Rattle.players.specs.declared.Step.{Step}
 use Rattle.players.specs.declared.Step.the-variants.{Assign, Release, RequestGuard, Read, Write, Deliver, Respond, Abandon, Lose, Split, Merge, RestartTablet, RestartPlayer}
+use Rattle.players.proofs.Kept.{Fits}
 use Rattle.session.specs.Layout.{widths, fields, map-of}
-use Rattle.session.specs.Records.{kind-and-fields, kind, step-of, kind-at}
+use Rattle.session.specs.Records.{kind-and-fields, kind, step-of, kind-at, Bytes}
 use Rattle.session.proofs.FieldLaws.{count}
 
 -- ---- from a step
@@ -121,3 +122,10 @@ reads s =
     & reads-as s 12 refl (λ e. rw e)
     & reads-as s 13 refl (λ e. rw e)
     & none)
+
+-- the entries of a step that was read are bytes
+pub fits-read : (s : List ℕ) → Bytes s → (k : ℕ) → 1 ≤ k → k ≤ 13 → Fits (step-of k (fields widths (map-of k) s 1))
+unfolding Bytes fields map-of step-of
+fits-read s b =
+    each-kind (λ (k : ℕ). Fits (step-of k (fields widths (map-of k) s 1)))
+    (tt & tt & tt & b 3 & b 3 & tt & tt & tt & tt & b 2 & b 2 & b 2 & tt & none)

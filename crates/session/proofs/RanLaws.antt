@@ -1,0 +1,80 @@
+-- The ways a run's call ends.
+-- Assumes nothing.
+use mathlib.Core.Path.{_≡_, _∙_, refl, ap}
+use mathlib.Core.Bool.{Bool, true, false, cond}
+use mathlib.Core.List.{List}
+use Prim.Native.Nat.{ℕ, _/_, _≤_, _<_}
+use native.Mathlib.Omega.{arith}
+use lib.Dec.{T, ltb}
+use lib.ListN.{length}
+use borrow.Author.Tests.{lt-ltb, le-ltb}
+use Rattle.store.specs.Table.{tableOf as store-table}
+use Rattle.store.specs.declared.Reply.{Reply}
+use Rattle.players.specs.Replies.{refusal, done}
+use Rattle.players.specs.Rules.{State}
+use Rattle.players.specs.Table.{stateOf, tableOf, valid}
+use Rattle.players.specs.Calls.{whole, Done, checked}
+use Rattle.players.proofs.CallLaws.{same-tables, passed}
+use Rattle.session.specs.Mark.{mark, marked}
+use Rattle.session.specs.Runs.{report, longest, stopped, run-marked, run, whole-places}
+use Rattle.session.specs.Calls.{Finished, finished, encoded, ran, Ready}
+use Rattle.session.proofs.MarkLaws.{begins-take}
+use Rattle.session.proofs.WriteLaws.{take-whole}
+
+-- a table is refused: by both tests
+not-both : (a b : Bool) (list st t : List ℕ) (d : Finished) → (cond a (cond b done (refusal 22)) (refusal 21) .code ≡ 0 → ⊥)
+    → finished (report (cond a (cond b done (refusal 22)) (refusal 21) .code) 0 0) list st t
+    ≡ cond a (cond b d (finished (report 22 0 0) list st t)) (finished (report 21 0 0) list st t)
+not-both true true list st t d h = absurd (h refl)
+not-both true false list st t d h = refl
+not-both false b list st t d h = refl
+
+module _ (st t session : List ℕ) (budget : ℕ) (list : List ℕ) (r : Reply) (e : r ≡ checked st t) where
+  pub tables-refused : (r .code ≡ 0 → ⊥) → finished (report (r .code) 0 0) list st t ≡ ran st t session budget list
+  tables-refused h = rw e (not-both (whole st t) (valid st t) list st t _ (λ x. h (ap (λ (y : Reply). y .code) e ∙ x)))
+
+  module _ (z : r .code ≡ 0) where
+    pub length-refused : longest < length session → finished (report 37 0 0) list st t ≡ ran st t session budget list
+    length-refused h = let p = passed st t r e z in rw (p .0, p .1, lt-ltb longest (length session) h)
+
+    module _ (short : length session ≤ longest) where
+      pub mark-refused : marked session ≡ false → finished (report 23 0 0) list st t ≡ ran st t session budget list
+      mark-refused m = let p = passed st t r e z in rw (p .0, p .1, le-ltb longest (length session) short, m)
+
+      module _ (m : marked session ≡ true) where
+        pub ready : (left : ℕ) → left ≤ length list / 3 → left ≤ 4294967295 → Ready st t session left list
+        ready left h k =
+            let p = passed st t r e z in
+            record {
+              lengths = p .0;
+              keeps = rw (p .1) tt;
+              marked = take-whole 4 session mark (begins-take mark session m) refl;
+              short = short;
+              room = omega arith;
+              few = k;
+            }
+
+        pub all-taken : (x : Finished) → x ≡ encoded list (run-marked (stateOf st t) session budget (whole-places list)) → x ≡ ran st t session budget list
+        all-taken x h = let p = passed st t r e z in rw (p .0, p .1, le-ltb longest (length session) short, m) h
+
+-- on tables that keep the rules, what is left is what the run of their state leaves
+pub ran-run : (st t session : List ℕ) (budget : ℕ) (list : List ℕ) → whole st t ≡ true → valid st t ≡ true
+    → ran st t session budget list ≡ encoded list (run (stateOf st t) session budget (whole-places list))
+ran-run st t session budget list w v = rw (w, v) (by (ltb longest (length session)) (marked session))
+  where
+    s : State
+    s = stateOf st t
+
+    unchanged : (n : ℕ) → finished (report n 0 0) list st t ≡ encoded list (stopped n 0 s)
+    unchanged n =
+        let d = same-tables st t w (rw v tt) (refusal 0) in
+        let es : store-table (s .store) ≡ st = ap (λ (x : Done). x .store) d in
+        let et : tableOf s ≡ t = ap (λ (x : Done). x .players) d in
+        rw (es, et)
+
+    by : (a m : Bool)
+        → cond a (finished (report 37 0 0) list st t) (cond m (encoded list (run-marked s session budget (whole-places list))) (finished (report 23 0 0) list st t))
+        ≡ encoded list (cond a (stopped 37 0 s) (cond m (run-marked s session budget (whole-places list)) (stopped 23 0 s)))
+    by true m = unchanged 37
+    by false true = refl
+    by false false = unchanged 23

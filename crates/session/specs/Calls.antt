@@ -1,0 +1,49 @@
+-- What a run does to the two tables and to the list for replies. Quoted words are document 01's.
+-- Assumes nothing.
+use mathlib.Core.Path.{_≡_}
+use mathlib.Core.Bool.{true, cond}
+use mathlib.Core.List.{List}
+use Prim.Native.Nat.{ℕ, _*_, _≤_}
+use lib.Dec.{T, ltb}
+use lib.ListN.{length}
+use Rattle.store.specs.Table.{tableOf as store-table}
+use Rattle.players.specs.Table.{stateOf, tableOf, valid}
+use Rattle.players.specs.Calls.{whole}
+use Rattle.session.specs.declared.Report.{Report}
+use Rattle.session.specs.Mark.{marked}
+use Rattle.session.specs.Runs.{report, Run, no-mark, too-long, longest, run-marked, whole-places, filled}
+
+-- a report, and the list and the two tables after it
+pub record Finished : Type 0 where
+  pub report : Report
+  pub list : List ℕ
+  pub store : List ℕ
+  pub players : List ℕ
+
+abbrev pub finished : Report → List ℕ → List ℕ → List ℕ → Finished
+finished r list st t = record { report = r; list = list; store = st; players = t }
+
+-- the replies are put into the list, and the tables hold the state that is left
+abbrev pub encoded : List ℕ → Run → Finished
+encoded list r = finished (r .report) (filled list (r .replies)) (store-table (r .state .store)) (tableOf (r .state))
+
+-- "For a run: 21, 22, 37, 23." A refused run reports "its number, 0, 0" and alters nothing
+abbrev pub ran : List ℕ → List ℕ → List ℕ → ℕ → List ℕ → Finished
+ran st t session budget list =
+    let refused : ℕ → Finished = λ n. finished (report n 0 0) list st t in
+    cond (whole st t)
+    (cond (valid st t)
+    (cond (ltb longest (length session)) (refused too-long)
+    (cond (marked session) (encoded list (run-marked (stateOf st t) session budget (whole-places list))) (refused no-mark)))
+    (refused 22))
+    (refused 21)
+
+-- ---- what a run that is not refused is given
+
+pub record Ready (st t session : List ℕ) (left : ℕ) (list : List ℕ) : Type 0 where
+  pub lengths : whole st t ≡ true
+  pub keeps : T (valid st t)
+  pub marked : 4 ≤ length session
+  pub short : length session ≤ longest
+  pub room : 3 * left ≤ length list
+  pub few : left ≤ 4294967295
