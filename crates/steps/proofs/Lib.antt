@@ -8,5 +8,6 @@ pub mod MoveLaws
 pub mod OwnershipLaws
 pub mod IssuingLaws
 pub mod LeavingLaws
+pub mod RespondLaws
 pub mod StoreStepLaws
 pub mod JoinLaws

@@ -3,6 +3,7 @@ mod cells;
 mod issuing;
 mod leaving;
 mod ownership;
+mod responding;
 mod store_steps;
 
 use store::Reply;

@@ -1,0 +1,20 @@
+-- `steps::responding::respond_read` meets its contract.
+-- Assumes nothing.
+use Rattle.steps.proofs.RespondLaws.{read-responds}
+use borrow.Author.Needs.{needs}
+use Rattle.steps.proofs.responding.respond_read.Statement.{statement}
+use Rattle.steps.proofs.responding.respond_read.Tie as tie
+
+remember-requires : tie.Need-remember-requires
+remember-requires c κs = search needs
+
+same-length : tie.Need-same-length
+same-length c = search needs
+
+returns : tie.Need-returns
+returns c =
+    let a = c .before .before .before .before .before .args in
+    read-responds (a .r) (c .before .before .before .before .before .pre .1) (a .players .now) _ (c .before .before .remember .ensures)
+
+pub respond-read-spec : {M : Type 1} → statement M
+respond-read-spec = tie.close (tie.spec remember-requires same-length returns)

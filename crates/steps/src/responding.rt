@@ -1,0 +1,192 @@
+// Step 7: responses that reach the player. The length of the players' table is known; its rules are not tested.
+use crate::cells;
+use crate::refuse;
+use requests::Found;
+use requests::Request;
+use requests::region;
+use store::Reply;
+use store::words;
+ghost use mathlib.Core.Path.{_≡_};
+ghost use Prim.Native.Nat.{_≤_, _<_};
+ghost use lib.ListN.{length};
+ghost use Rattle.players.specs.declared.Step.the-variants.{Respond};
+ghost use Rattle.players.specs.Rules.{respond, respond-guard-request, respond-read, respond-write, step};
+ghost use Rattle.steps.specs.Calls.{Moves, filled};
+ghost use Rattle.steps.specs.RespondCalls.{Responds, still-owning, remembering};
+
+// Whether the player owns each entry from `low` up to `high` with an epoch below the serial; false where that is no range.
+fn still_owned(players: &[u32], player: u8, low: u8, high: u16, serial: u32) -> bool
+    requires { ⌜ length (now players) ≡ 9473 ⌝ }
+    ensures { λ r. ⌜ r ≡ still-owning player low high serial (now (players .entry)) ⌝ }
+{
+    let end = high as usize;
+    let mut e = low as usize;
+    if e >= end {
+        return false;
+    }
+    if end > 256 {
+        return false;
+    }
+    while e < end {
+        if players[1 + e] != player as u32 {
+            return false;
+        }
+        if players[257 + e] >= serial {
+            return false;
+        }
+        e += 1;
+    }
+    true
+}
+
+// The guards of cells `low` up to `high` become `guard`.
+fn grant(players: &mut [u32], low: usize, high: usize, guard: u32)
+    requires { ⌜ (length (now players) ≡ 9473) × (low ≤ high) × (high ≤ 2048) ⌝ }
+    ensures { λ _. ⌜ now (players .exit) ≡ filled 513 low high guard (now (players .entry)) ⌝ }
+{
+    words::fill(&mut players[513 + low..513 + high], guard);
+}
+
+// Caches a value for the entry if the guard carried is the player's live one, and no write crossed it.
+fn remember(
+    players: &mut [u32],
+    player: u8,
+    entry: u8,
+    guard: u32,
+    overlapped: bool,
+    version: u32,
+    value: u32,
+)
+    requires { ⌜ (length (now players) ≡ 9473) × (player < 8) ⌝ }
+    ensures { λ _. ⌜ now (players .exit) ≡ remembering player entry guard overlapped version value (now (players .entry)) ⌝ }
+{
+    if guard == 0 {
+        return;
+    }
+    if overlapped {
+        return;
+    }
+    if cells::live_guard(players, player, entry) != guard {
+        return;
+    }
+    cells::cache(
+        players,
+        player as usize * 256 + entry as usize,
+        guard,
+        version,
+        value,
+    );
+}
+
+// A guard request: granted, or the layout changed, or no longer held.
+fn respond_guard_request(players: &mut [u32], r: Request) -> Reply
+    requires { ⌜ (length (now players) ≡ 9473) × (r .player < 8) × (r .kind ≡ 3) ⌝ }
+    ensures { λ x. ⌜ Responds respond-guard-request r (now (players .entry)) x (now (players .exit)) ⌝ }
+{
+    if !still_owned(players, r.player, r.low, r.high, r.serial) {
+        return Reply {
+            code: 7,
+            a: r.serial,
+            b: 0,
+        };
+    }
+    if r.first != 1 {
+        return Reply {
+            code: 8,
+            a: r.serial,
+            b: 0,
+        };
+    }
+    let i = r.player as usize * 256;
+    grant(players, i + r.low as usize, i + r.high as usize, r.serial);
+    Reply {
+        code: 6,
+        a: r.serial,
+        b: 0,
+    }
+}
+
+// A read: its outcome, cached if it may be.
+fn respond_read(players: &mut [u32], r: Request) -> Reply
+    requires { ⌜ (length (now players) ≡ 9473) × (r .player < 8) ⌝ }
+    ensures { λ x. ⌜ Responds respond-read r (now (players .entry)) x (now (players .exit)) ⌝ }
+{
+    remember(
+        players,
+        r.player,
+        r.low,
+        r.guard,
+        r.overlapped,
+        r.first,
+        r.second,
+    );
+    Reply {
+        code: 3,
+        a: r.first,
+        b: r.second,
+    }
+}
+
+// A write: committed, and cached if it may be; or rejected, and the guard carried is dropped.
+fn respond_write(players: &mut [u32], r: Request) -> Reply
+    requires { ⌜ (length (now players) ≡ 9473) × (r .player < 8) ⌝ }
+    ensures { λ x. ⌜ Responds respond-write r (now (players .entry)) x (now (players .exit)) ⌝ }
+{
+    if r.first != 1 {
+        cells::drop_guard(players, r.player, r.guard);
+        return Reply {
+            code: 5,
+            a: r.serial,
+            b: 0,
+        };
+    }
+    remember(
+        players,
+        r.player,
+        r.low,
+        r.guard,
+        r.overlapped,
+        r.serial,
+        r.value,
+    );
+    Reply {
+        code: 4,
+        a: r.serial,
+        b: r.value,
+    }
+}
+
+// By kind, once the request has left.
+fn respond_to(players: &mut [u32], r: Request) -> Reply
+    requires { ⌜ (length (now players) ≡ 9473) × (r .player < 8) ⌝ }
+    ensures { λ x. ⌜ Responds respond r (now (players .entry)) x (now (players .exit)) ⌝ }
+{
+    if r.kind == 3 {
+        return respond_guard_request(players, r);
+    }
+    if r.kind == 4 {
+        return respond_read(players, r);
+    }
+    respond_write(players, r)
+}
+
+// Step 7: the request leaves, and its outcome takes effect at the player.
+pub(crate) fn respond(players: &mut [u32], serial: u32) -> Reply
+    requires { ⌜ length (now players) ≡ 9473 ⌝ }
+    ensures { λ r. ⌜ Moves (λ s. step s (Respond serial)) (now (players .entry)) r (now (players .exit)) ⌝ }
+{
+    let found = region::find(&players[8705..9473], serial);
+    match found {
+        Found::Nowhere => refuse(32),
+        Found::At { place, request } => {
+            if !request.delivered {
+                return refuse(32);
+            }
+            if request.abandoned {
+                return refuse(32);
+            }
+            region::remove(&mut players[8705..9473], place);
+            respond_to(players, request)
+        }
+    }
+}
