@@ -7,6 +7,7 @@ use mathlib.Core.List.{List}
 use Prim.Native.Nat.{ℕ}
 use lib.Dec.{leb, eqb}
 use lib.ListN.{length}
+use borrow.Author.Tests.{eq-eqb, ne-eqb}
 use Rattle.store.specs.declared.Reply.{Reply}
 use Rattle.store.specs.declared.Range.{Range}
 use Rattle.store.specs.Model.{serials, bad-range}
@@ -120,3 +121,15 @@ module _ (s : State) where
 
   pub restart-player-keeps : (p : ℕ) → step s (RestartPlayer p) .state .store ≡ s .store
   restart-player-keeps p = after-check (leb 8 p) 28 (restart-player s p) refl
+
+-- ---- the lengths
+
+module _ (st t : List ℕ) where
+  pub both-long : length st ≡ 1280 → length t ≡ 9473 → whole st t ≡ true
+  both-long h k = rw (eq-eqb (length st) 1280 h, eq-eqb (length t) 9473 k)
+
+  pub store-wrong : (length st ≡ 1280 → ⊥) → whole st t ≡ false
+  store-wrong h = rw (ne-eqb (length st) 1280 h)
+
+  pub players-wrong : length st ≡ 1280 → (length t ≡ 9473 → ⊥) → whole st t ≡ false
+  players-wrong h k = rw (eq-eqb (length st) 1280 h, ne-eqb (length t) 9473 k)

@@ -6,9 +6,12 @@ mod ownership;
 mod responding;
 mod store_steps;
 
+use players::Step;
 use store::Reply;
 ghost use mathlib.Core.Path.{_≡_};
 ghost use Rattle.players.specs.Replies.{refusal, issued};
+ghost use Rattle.players.specs.Rules.{step};
+ghost use Rattle.players.specs.Calls.{left, called, Steps};
 
 // A reply that is a code alone: a refusal, or 0 for done.
 fn refuse(code: u32) -> Reply
@@ -26,4 +29,46 @@ fn issued(serial: u32) -> Reply
         a: serial,
         b: 0,
     }
+}
+
+// A step on tables that are known to keep the rules: their lengths alone are tested.
+pub fn take(store: &mut [u32], players: &mut [u32], next: Step) -> Reply
+    ensures { λ r. ⌜ Steps (λ s. step s next) (now (store .entry)) (now (players .entry)) r (now (store .exit)) (now (players .exit)) ⌝ }
+{
+    if store.len() != 1280 {
+        return refuse(21);
+    }
+    if players.len() != 9473 {
+        return refuse(21);
+    }
+    match next {
+        Step::Assign { player, range } => ownership::assign(players, player, range),
+        Step::Release { range } => ownership::release(players, range),
+        Step::RequestGuard { player, range } => issuing::request_guard(players, player, range),
+        Step::Read { player, entry } => issuing::read(players, player, entry),
+        Step::Write {
+            player,
+            entry,
+            value,
+        } => issuing::write(players, player, entry, value),
+        Step::Deliver { serial } => store_steps::deliver(store, players, serial),
+        Step::Respond { serial } => responding::respond(players, serial),
+        Step::Abandon { serial } => leaving::abandon(players, serial),
+        Step::Lose { serial } => leaving::lose(players, serial),
+        Step::Split { entry } => store_steps::split(store, entry),
+        Step::Merge { entry } => store_steps::merge(store, entry),
+        Step::RestartTablet { entry } => store_steps::restart_tablet(store, entry),
+        Step::RestartPlayer { player } => leaving::restart_player(players, player),
+    }
+}
+
+// A step: the tables are tested first.
+pub fn step(store: &mut [u32], players: &mut [u32], next: Step) -> Reply
+    ensures { λ r. ⌜ left r (now (store .exit)) (now (players .exit)) ≡ called (λ s. step s next) (now (store .entry)) (now (players .entry)) ⌝ }
+{
+    let tested = players::check(store, players);
+    if tested.code != 0 {
+        return tested;
+    }
+    take(store, players, next)
 }
