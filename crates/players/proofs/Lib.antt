@@ -5,3 +5,4 @@ pub mod FreshLaws
 pub mod CheckLaws
 pub mod Kept
 pub mod CallLaws
+pub mod PlayedLaws
