@@ -1,13 +1,13 @@
 -- Fields of any widths under any map: what was written is read back, and what is read is what stands there.
 -- Assumes nothing.
-use mathlib.Core.Path.{_≡_, _∙_, refl, sym, ap}
+use mathlib.Core.Path.{_≡_, _∙_, refl, ap}
 use mathlib.Core.Bool.{Bool, true, false, cond}
 use mathlib.Core.List.{List, [], _∷_, _++_, append-assoc}
 use Prim.Native.Nat.{ℕ, zero, suc, _+_, _*_, _/_, _%_, _≤_, _<_}
 use native.Mathlib.Omega.{arith}
 use native.Mathlib.Nat.{not-suc-le-zero}
 use native.Mathlib.Numerals.{add-one}
-use lib.ListN.{length, getD, take, drop, length-append, length-drop}
+use lib.ListN.{length, getD, take, drop, length-append}
 use lib.Seq.{getD-append-seam, drop-cons, drop-drop, take-add, append-snoc}
 use Rattle.session.specs.Layout.{stands, fields-length, number, bytes, fields, field-bytes}
 use Rattle.session.specs.Records.{Bytes}

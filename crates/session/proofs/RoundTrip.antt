@@ -13,7 +13,7 @@ use Rattle.players.proofs.Kept.{Fits}
 use Rattle.session.specs.Layout.{widths, record-length, fields-length, fields, field-bytes, map-of}
 use Rattle.session.specs.declared.Decoded.{Decoded}
 use Rattle.session.specs.declared.Decoded.the-variants.{Record, Refused}
-use Rattle.session.specs.Records.{kind-and-fields, kind, step-of, map-at, kind-at, fields-at, tested, decode, Numbers, taken, refused, Decodes, encode, Bytes}
+use Rattle.session.specs.Records.{kind-and-fields, kind, step-of, map-at, kind-at, fields-at, decode, Numbers, taken, refused, Decodes, encode, Bytes}
 use Rattle.session.proofs.Tested.{Accepted, accepted, Outcome, refuses, accepts, outcome}
 use Rattle.session.proofs.FieldLaws.{length-fields, fields-back, field-bytes-back}
 use Rattle.session.proofs.StepLaws.{known, kind-map, Reads, reads, fits-read}

@@ -1,18 +1,15 @@
 -- The tests of a record, one by one: what each refuses, and what is known of a record that passes them all.
 -- Assumes nothing.
-use mathlib.Core.Path.{_≡_, refl, sym, ap}
-use mathlib.Core.Logic.{⊎-elim}
+use mathlib.Core.Path.{_≡_, refl, sym}
 use mathlib.Core.Bool.{Bool, true, false, cond, _||_}
 use mathlib.Core.List.{List}
 use Prim.Native.Nat.{ℕ, _%_, _≤_, _<_}
-use native.Mathlib.Omega.{arith}
 use lib.ListN.{length}
 use lib.Dec.{ltb, leb, eqb}
 use borrow.Author.Tests.{ltb-true, ltb-false, leb-true, leb-false, eqb-true, eqb-false, lt-ltb, le-ltb, le-leb, lt-leb, eq-eqb, ne-eqb}
-use Rattle.store.proofs.Bools.{decide}
 use Rattle.session.specs.Layout.{stands, record-length, map-of}
 use Rattle.session.specs.declared.Decoded.{Decoded}
-use Rattle.session.specs.declared.Decoded.the-variants.{Record, Refused}
+use Rattle.session.specs.declared.Decoded.the-variants.{Refused}
 use Rattle.session.specs.Records.{map-at, kind-at, tested, Numbers, refused, Decodes}
 
 -- whatever is made of it, the tests come to the refusal n

@@ -1,12 +1,11 @@
 -- A session: the layout of a record (Layout), what its bytes mean (Records), what writing to a buffer does (Written), the session's mark
--- (Mark), a run (Runs) and its call (Calls), the document's cases (Cases), the text of a listing (Listing), and what the private functions
--- that write text do (Text).
+-- (Mark), a run (Runs), the document's cases (Cases), the text of a listing (Listing), and what the private functions that write text do
+-- (Text).
 pub mod Layout
 pub mod Records
 pub mod Written
 pub mod Mark
 pub mod Runs
-pub mod Calls
 pub mod Cases
 pub mod Listing
 pub mod Text

@@ -1,8 +1,8 @@
 // Text, put into a line from a place on. Each function gives the place after it.
 ghost use mathlib.Core.Path.{_≡_};
-ghost use mathlib.Core.List.{[], _∷_, _++_};
+ghost use mathlib.Core.List.{[], _∷_};
 ghost use Prim.Native.Nat.{_+_, _^_, _≤_, _<_};
-ghost use lib.ListN.{length, take};
+ghost use lib.ListN.{length};
 ghost use Rattle.session.specs.Listing.{space, decimal, three};
 ghost use Rattle.session.specs.Text.{Puts, last-digit};
 

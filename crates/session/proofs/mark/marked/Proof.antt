@@ -1,7 +1,7 @@
 -- `session::mark::marked` meets its contract: the first byte that differs refuses.
 -- Assumes nothing.
 use mathlib.Core.Path.{_∙_, sym}
-use mathlib.Core.List.{List, [], _∷_}
+use mathlib.Core.List.{[], _∷_}
 use denote.Ref.{now}
 use Rattle.session.specs.Mark.{mark}
 use Rattle.session.proofs.MarkLaws.{shorter, same-at, other-at, last-at}

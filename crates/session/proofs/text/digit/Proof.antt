@@ -1,6 +1,5 @@
 -- `session::text::digit` meets its contract.
 -- Assumes nothing.
-use denote.Ref.{now}
 use borrow.Author.Tests.{eq-eqb, ne-eqb}
 use Rattle.session.proofs.TextLaws.{puts-none}
 use borrow.Author.Needs.{needs}

@@ -7,24 +7,42 @@ use Prim.Native.Nat.{ℕ, zero, suc, _+_, _-_, _*_, _≤_, _<_}
 use native.Mathlib.Omega.{arith}
 use native.Mathlib.Nat.{add-zero}
 use lib.Dec.{T, eqb}
-use lib.ListN.{length, drop, length-drop, length-append}
-use lib.Seq.{sets, drop-drop}
+use lib.ListN.{length, take, drop, length-drop, length-append}
+use lib.Seq.{sets, drop-drop, take-all}
 use borrow.Author.Tests.{eq-eqb, ne-eqb}
 use Rattle.store.specs.Table.{tableOf as store-table}
 use Rattle.store.specs.declared.Reply.{Reply}
 use Rattle.players.specs.declared.Step.{Step}
 use Rattle.players.specs.Replies.{reply}
-use Rattle.players.specs.Rules.{State, step}
+use Rattle.players.specs.Rules.{step}
 use Rattle.players.specs.Table.{stateOf, tableOf, valid}
 use Rattle.players.specs.Calls.{whole, Steps, Done}
-use Rattle.players.proofs.CallLaws.{same-tables, Left, stepped}
-use Rattle.players.proofs.Kept.{Fits}
+use Rattle.players.proofs.CallLaws.{same-tables, stepped}
+use Rattle.session.specs.declared.Decoded.{Decoded}
 use Rattle.session.specs.declared.Decoded.the-variants.{Record, Refused}
-use Rattle.session.specs.Records.{decode, Bytes}
+use Rattle.session.specs.Records.{decode, Decodes, Bytes}
 use Rattle.session.specs.Runs.{report, Run, at-end, spent, stopped, took, run-from, filled}
-use Rattle.session.specs.Calls.{finished, encoded, Ready}
+use Rattle.runs.specs.Calls.{finished, encoded, Ready}
 use Rattle.session.proofs.RoundTrip.{within, decoded-fits}
-use Rattle.session.proofs.LoopLaws.{after, after-none, after-took, filled-more}
+use Rattle.runs.proofs.LoopLaws.{after, after-none, after-took, filled-more}
+
+-- ---- what stands at a place
+
+-- the part that starts at the place is read
+pub decoded-at : (place : ℕ) (session : List ℕ) (d e : Decoded) → Decodes (take (length session - place) (drop place session)) d → d ≡ e
+    → decode (drop place session) ≡ e
+decoded-at place session d e h k =
+    ap decode (sym (take-all (length session - place) (drop place session) (rw length-drop (omega arith)))) ∙ sym (h .answer) ∙ k
+
+-- a record lies within the session
+pub record-within : (place : ℕ) (session : List ℕ) (x : Step) (n : ℕ) → place ≤ length session → decode (drop place session) ≡ Record x n
+    → (1 ≤ n) × (place + n ≤ length session)
+record-within place session x n h e =
+    let w = within (drop place session) x n e in
+    let y = length-drop place session in
+    (w .0, omega (arith, w .1))
+
+-- ---- the loop
 
 -- `taken` records are taken, up to `place`: the run from here on, after their replies, is the whole run
 pub record Running (whole-run : Run) (left : ℕ) (session list₀ : List ℕ) (taken place : ℕ) (st t list : List ℕ) : Type 0 where
@@ -106,7 +124,6 @@ module _ (left : ℕ) (session list₀ : List ℕ) where
             let s = stateOf st t in
             let rs = r .replies in
             let l = stepped st t x a st′ t′ (r .lengths) (r .keeps) (decoded-fits (drop place session) x n b e) g in
-            let w = within (drop place session) x n e in
             let q : run-from (left - taken) s place (drop place session) ≡ took a (run-from (left - (taken + 1)) (stateOf st′ t′) (place + n) (drop (place + n) session)) =
             rw (next, some, e, l .replied, l .holds, drop-drop n place session) in
             record {
@@ -117,5 +134,5 @@ module _ (left : ℕ) (session list₀ : List ℕ) where
               lengths = l .lengths;
               keeps = l .keeps;
               rest = sym (after-took rs a _) ∙ sym (ap (after rs) q) ∙ r .rest;
-              inside = let y = length-drop place session in let i = r .inside in omega (arith, w .1);
+              inside = record-within place session x n (r .inside) e .1;
             }

@@ -3,11 +3,11 @@
 use mathlib.Core.Path.{_≡_, _∙_, refl, ap}
 use mathlib.Core.Bool.{Bool, true, false, cond}
 use mathlib.Core.List.{List}
-use Prim.Native.Nat.{ℕ, _/_, _≤_, _<_}
+use Prim.Native.Nat.{ℕ, _≤_, _<_}
 use native.Mathlib.Omega.{arith}
-use lib.Dec.{T, ltb}
+use lib.Dec.{leb, ltb}
 use lib.ListN.{length}
-use borrow.Author.Tests.{lt-ltb, le-ltb}
+use borrow.Author.Tests.{leb-true, leb-false, lt-ltb, le-ltb}
 use Rattle.store.specs.Table.{tableOf as store-table}
 use Rattle.store.specs.declared.Reply.{Reply}
 use Rattle.players.specs.Replies.{refusal, done}
@@ -15,11 +15,19 @@ use Rattle.players.specs.Rules.{State}
 use Rattle.players.specs.Table.{stateOf, tableOf, valid}
 use Rattle.players.specs.Calls.{whole, Done, checked}
 use Rattle.players.proofs.CallLaws.{same-tables, passed}
 use Rattle.session.specs.Mark.{mark, marked}
-use Rattle.session.specs.Runs.{report, longest, stopped, run-marked, run, whole-places}
-use Rattle.session.specs.Calls.{Finished, finished, encoded, ran, Ready}
+use Rattle.session.specs.Runs.{report, longest, stopped, allowed, run-marked, run, whole-places}
+use Rattle.runs.specs.Calls.{Finished, finished, encoded, ran, Ready}
 use Rattle.session.proofs.MarkLaws.{begins-take}
 use Rattle.session.proofs.WriteLaws.{take-whole}
+
+-- no more records than the budget, and than the places
+allowed-few : (budget places : ℕ) → (allowed budget places ≤ budget) × (allowed budget places ≤ places)
+allowed-few budget places = by (leb budget places) refl
+  where
+    by : (b : Bool) → leb budget places ≡ b → (cond b budget places ≤ budget) × (cond b budget places ≤ places)
+    by true e = (omega arith, leb-true budget places e)
+    by false e = let h = leb-false budget places e in (omega arith, omega arith)
 
 -- a table is refused: by both tests
 not-both : (a b : Bool) (list st t : List ℕ) (d : Finished) → (cond a (cond b done (refusal 22)) (refusal 21) .code ≡ 0 → ⊥)
@@ -42,16 +50,17 @@ module _ (st t session : List ℕ) (budget : ℕ) (list : List ℕ) (r : Reply) 
       mark-refused m = let p = passed st t r e z in rw (p .0, p .1, le-ltb longest (length session) short, m)
 
       module _ (m : marked session ≡ true) where
-        pub ready : (left : ℕ) → left ≤ length list / 3 → left ≤ 4294967295 → Ready st t session left list
+        pub ready : (left : ℕ) → left ≡ allowed budget (whole-places list) → budget ≤ 4294967295 → Ready st t session left list
         ready left h k =
             let p = passed st t r e z in
+            let f = allowed-few budget (whole-places list) in
             record {
               lengths = p .0;
               keeps = rw (p .1) tt;
               marked = take-whole 4 session mark (begins-take mark session m) refl;
               short = short;
-              room = omega arith;
-              few = k;
+              room = omega (arith, f .1);
+              few = omega (arith, f .0);
             }
 
         pub all-taken : (x : Finished) → x ≡ encoded list (run-marked (stateOf st t) session budget (whole-places list)) → x ≡ ran st t session budget list

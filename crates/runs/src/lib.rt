@@ -1,0 +1,113 @@
+// A run over a session, on lent tables.
+use session::Decoded;
+use session::Report;
+use store::Reply;
+ghost use mathlib.Core.Path.{_≡_};
+ghost use mathlib.Core.List.{[], _∷_};
+ghost use Prim.Native.Nat.{_+_, _≤_};
+ghost use lib.ListN.{length, drop};
+ghost use lib.Seq.{sets};
+ghost use Rattle.players.specs.Table.{stateOf};
+ghost use Rattle.session.specs.Runs.{report, allowed, run-from};
+ghost use Rattle.runs.specs.Calls.{finished, encoded, ran, Ready};
+
+// Puts a reply into three places of the list.
+fn put_reply(list: &mut [u32], at: usize, reply: Reply)
+    requires { ⌜ at + 3 ≤ length (now list) ⌝ }
+    ensures { λ _. ⌜ now (list .exit) ≡ sets (now (list .entry)) at (reply .code ∷ reply .a ∷ reply .b ∷ []) ⌝ }
+{
+    list[at] = reply.code;
+    list[at + 1] = reply.a;
+    list[at + 2] = reply.b;
+}
+
+// As many records as the budget and the list's whole places allow.
+fn allowed(budget: u32, places: usize) -> usize
+    ensures { λ r. ⌜ r ≡ allowed budget places ⌝ }
+{
+    if budget as usize <= places {
+        budget as usize
+    } else {
+        places
+    }
+}
+
+// A run that is refused takes no record.
+fn refused(why: u32) -> Report
+    ensures { λ r. ⌜ r ≡ report why 0 0 ⌝ }
+{
+    Report {
+        why,
+        records: 0,
+        place: 0,
+    }
+}
+
+// Takes at most `left` records, from the byte after the mark on.
+fn take(
+    store: &mut [u32],
+    players: &mut [u32],
+    session: &[u8],
+    left: usize,
+    replies: &mut [u32],
+) -> Report
+    requires { ⌜ Ready (now store) (now players) (now session) left (now replies) ⌝ }
+    ensures { λ r. ⌜ finished r (now (replies .exit)) (now (store .exit)) (now (players .exit)) ≡ encoded (now (replies .entry)) (run-from left (stateOf (now (store .entry)) (now (players .entry))) 4 (drop 4 (now (session .entry)))) ⌝ }
+{
+    let mut place: usize = 4;
+    let mut taken: usize = 0;
+    while place != session.len() {
+        if left <= taken {
+            return Report {
+                why: 9,
+                records: taken as u32,
+                place: place as u32,
+            };
+        }
+        match session::records::decode(&session[place..]) {
+            Decoded::Record { step, length } => {
+                let reply = steps::take(store, players, step);
+                put_reply(replies, 3 * taken, reply);
+                place += length;
+                taken += 1;
+            }
+            Decoded::Refused(why) => {
+                return Report {
+                    why,
+                    records: taken as u32,
+                    place: place as u32,
+                };
+            }
+        }
+    }
+    Report {
+        why: 0,
+        records: taken as u32,
+        place: place as u32,
+    }
+}
+
+// A run: tables, session, a budget of records and a list for replies, of three numbers each.
+pub fn run(
+    store: &mut [u32],
+    players: &mut [u32],
+    session: &[u8],
+    budget: u32,
+    replies: &mut [u32],
+) -> Report
+    ensures { λ r. ⌜ finished r (now (replies .exit)) (now (store .exit)) (now (players .exit)) ≡ ran (now (store .entry)) (now (players .entry)) (now (session .entry)) budget (now (replies .entry)) ⌝ }
+{
+    let tested = players::check(store, players);
+    if tested.code != 0 {
+        return refused(tested.code);
+    }
+    if 16384 < session.len() {
+        return refused(37);
+    }
+    if session::mark::marked(session) {
+        let left = allowed(budget, replies.len() / 3);
+        take(store, players, session, left, replies)
+    } else {
+        refused(23)
+    }
+}
