@@ -32,14 +32,15 @@ fn allowed(budget: u32, places: usize) -> usize
     }
 }
 
-// A run that is refused takes no record.
-fn refused(why: u32) -> Report
-    ensures { λ r. ⌜ r ≡ report why 0 0 ⌝ }
+// Why a run stopped, the records it took, and the place after them.
+fn stopped(why: u32, taken: usize, place: usize) -> Report
+    requires { ⌜ (taken ≤ 4294967295) × (place ≤ 4294967295) ⌝ }
+    ensures { λ r. ⌜ r ≡ report why taken place ⌝ }
 {
     Report {
         why,
-        records: 0,
-        place: 0,
+        records: taken as u32,
+        place: place as u32,
     }
 }
 
@@ -58,11 +59,7 @@ fn take(
     let mut taken: usize = 0;
     while place != session.len() {
         if left <= taken {
-            return Report {
-                why: 9,
-                records: taken as u32,
-                place: place as u32,
-            };
+            return stopped(9, taken, place);
         }
         match session::records::decode(&session[place..]) {
             Decoded::Record { step, length } => {
@@ -72,19 +69,11 @@ fn take(
                 taken += 1;
             }
             Decoded::Refused(why) => {
-                return Report {
-                    why,
-                    records: taken as u32,
-                    place: place as u32,
-                };
+                return stopped(why, taken, place);
             }
         }
     }
-    Report {
-        why: 0,
-        records: taken as u32,
-        place: place as u32,
-    }
+    stopped(0, taken, place)
 }
 
 // A run: tables, session, a budget of records and a list for replies, of three numbers each.
@@ -99,15 +88,15 @@ pub fn run(
 {
     let tested = players::check(store, players);
     if tested.code != 0 {
-        return refused(tested.code);
+        return stopped(tested.code, 0, 0);
     }
     if 16384 < session.len() {
-        return refused(37);
+        return stopped(37, 0, 0);
     }
     if session::mark::marked(session) {
         let left = allowed(budget, replies.len() / 3);
         take(store, players, session, left, replies)
     } else {
-        refused(23)
+        stopped(23, 0, 0)
     }
 }

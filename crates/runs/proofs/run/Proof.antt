@@ -10,8 +10,8 @@ use Rattle.runs.proofs.run.Tie as tie
 check-requires : tie.Need-check-requires
 check-requires c κs = search needs
 
-refused-requires : tie.Need-refused-requires
-refused-requires c κs = search needs
+stopped-requires : tie.Need-stopped-requires
+stopped-requires c κs = search needs
 
 same-length : tie.Need-same-length
 same-length c = search needs
@@ -23,10 +23,10 @@ returns : tie.Need-returns
 returns c =
     let k = c .before .before .before in
     let a = k .before .before .before .before .before .before .before .args in
-    rw (c .refused .ensures) (tables-refused (a .store .now) (a .players .now) (a .session .now) (a .budget) (a .replies .now) (k .check .result) (k .check .ensures) (c .before .if1 .taken))
+    rw (c .stopped .ensures) (tables-refused (a .store .now) (a .players .now) (a .session .now) (a .budget) (a .replies .now) (k .check .result) (k .check .ensures) (c .before .if1 .taken))
 
-refused-requires-2 : tie.Need-refused-requires-2
-refused-requires-2 c κs = search needs
+stopped-requires-2 : tie.Need-stopped-requires-2
+stopped-requires-2 c κs = search needs
 
 same-length-3 : tie.Need-same-length-3
 same-length-3 c = search needs
@@ -38,7 +38,7 @@ returns-2 : tie.Need-returns-2
 returns-2 c =
     let k = c .before .before .before .before in
     let a = k .before .before .before .before .before .before .before .args in
-    rw (c .refused2 .ensures) (length-refused (a .store .now) (a .players .now) (a .session .now) (a .budget) (a .replies .now) (k .check .result) (k .check .ensures) (c .before .before .if1 .left) (c .before .if2 .taken))
+    rw (c .stopped2 .ensures) (length-refused (a .store .now) (a .players .now) (a .session .now) (a .budget) (a .replies .now) (k .check .result) (k .check .ensures) (c .before .before .if1 .left) (c .before .if2 .taken))
 
 marked-requires : tie.Need-marked-requires
 marked-requires c κs = search needs
@@ -52,8 +52,8 @@ take-requires c κs =
     let a = k .before .before .before .before .before .before .before .args in
     ready (a .store .now) (a .players .now) (a .session .now) (a .budget) (a .replies .now) (k .check .result) (k .check .ensures) (c .before .before .before .before .before .before .before .if1 .left) (c .before .before .before .before .before .before .if2 .left) (sym (c .before .before .before .before .before .marked .ensures) ∙ c .before .before .before .before .if3 .taken) _ (c .before .before .before .allowed .ensures) (omega arith)
 
-refused-requires-3 : tie.Need-refused-requires-3
-refused-requires-3 c κs = search needs
+stopped-requires-3 : tie.Need-stopped-requires-3
+stopped-requires-3 c κs = search needs
 
 same-length-5 : tie.Need-same-length-5
 same-length-5 c = search needs
@@ -80,25 +80,25 @@ returns-4 : tie.Need-returns-4
 returns-4 c =
     let k = c .before .before .before .before .before .before in
     let a = k .before .before .before .before .before .before .before .args in
-    rw (c .refused3 .ensures) (mark-refused (a .store .now) (a .players .now) (a .session .now) (a .budget) (a .replies .now) (k .check .result) (k .check .ensures) (c .before .before .before .before .if1 .left) (c .before .before .before .if2 .left) (sym (c .before .before .marked .ensures) ∙ c .before .if3 .left))
+    rw (c .stopped3 .ensures) (mark-refused (a .store .now) (a .players .now) (a .session .now) (a .budget) (a .replies .now) (k .check .result) (k .check .ensures) (c .before .before .before .before .if1 .left) (c .before .before .before .if2 .left) (sym (c .before .before .marked .ensures) ∙ c .before .if3 .left))
 
 pub run-spec : {M : Type 1} → statement M
 run-spec =
     tie.close
     (tie.spec
     check-requires
-    refused-requires
+    stopped-requires
     same-length
     same-length-2
     returns
-    refused-requires-2
+    stopped-requires-2
     same-length-3
     same-length-4
     returns-2
     marked-requires
     allowed-requires
     take-requires
-    refused-requires-3
+    stopped-requires-3
     same-length-5
     same-length-6
     same-length-7

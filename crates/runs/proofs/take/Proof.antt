@@ -26,11 +26,8 @@ loop-holds c =
     let k = c .before .before .before .before in
     let a = k .args in (running-begins (a .left) (a .session .now) (a .replies .now) (a .store .now) (a .players .now) (k .pre), refl, refl, refl)
 
-cast-t14 : tie.Need-cast-t14 Inv-loop μ-loop
-cast-t14 c = search needs
-
-cast-t15 : tie.Need-cast-t15 Inv-loop μ-loop
-cast-t15 c = search needs
+stopped-requires : tie.Need-stopped-requires Inv-loop μ-loop
+stopped-requires c κs = (omega arith, omega arith)
 
 same-length : tie.Need-same-length Inv-loop μ-loop
 same-length c = search needs
@@ -43,9 +40,9 @@ same-length-3 c = search needs
 
 returns : tie.Need-returns Inv-loop μ-loop
 returns c =
-    let l = c .before .before .loop in
-    let a = c .before .before .before .before .before .before .before .args in
-    is-spent (a .left) (a .session .now) (a .replies .now) _ (l .taken) (l .place) (l .store) (l .players) (l .replies) (l .inv .0) (c .before .loop-test .taken) (c .if1 .taken)
+    let l = c .before .before .before .loop in
+    let a = c .before .before .before .before .before .before .before .before .args in
+    rw (c .stopped .ensures) (is-spent (a .left) (a .session .now) (a .replies .now) _ (l .taken) (l .place) (l .store) (l .players) (l .replies) (l .inv .0) (c .before .before .loop-test .taken) (c .before .if1 .taken))
 
 sub-decode : tie.Need-sub-decode Inv-loop μ-loop
 sub-decode c = search needs
@@ -110,11 +107,8 @@ loop-again c =
 enum-known-why : tie.Need-enum-known-why Inv-loop μ-loop
 enum-known-why c = search needs
 
-cast-t28 : tie.Need-cast-t28 Inv-loop μ-loop
-cast-t28 c = search needs
-
-cast-t29 : tie.Need-cast-t29 Inv-loop μ-loop
-cast-t29 c = search needs
+stopped-requires-2 : tie.Need-stopped-requires-2 Inv-loop μ-loop
+stopped-requires-2 c κs = (omega arith, omega arith)
 
 same-length-4 : tie.Need-same-length-4 Inv-loop μ-loop
 same-length-4 c = search needs
@@ -127,15 +121,12 @@ same-length-6 c = search needs
 
 returns-2 : tie.Need-returns-2 Inv-loop μ-loop
 returns-2 c =
-    let l = c .before .before .before .before .before .before .before .loop in
-    let a = c .before .before .before .before .before .before .before .before .before .before .before .before .args in
-    is-refused (a .left) (a .session .now) (a .replies .now) _ (l .taken) (l .place) (l .store) (l .players) (l .replies) (l .inv .0) (c .before .before .before .before .before .before .loop-test .taken) (omega (arith, c .before .before .before .before .before .if1 .left)) _ (decoded-at (l .place) (a .session .now) _ _ (c .before .before .before .decode .ensures) (c .before .why .given .1))
+    let l = c .before .before .before .before .before .before .before .before .loop in
+    let a = c .before .before .before .before .before .before .before .before .before .before .before .before .before .args in
+    rw (c .stopped2 .ensures) (is-refused (a .left) (a .session .now) (a .replies .now) _ (l .taken) (l .place) (l .store) (l .players) (l .replies) (l .inv .0) (c .before .before .before .before .before .before .before .loop-test .taken) (omega (arith, c .before .before .before .before .before .before .if1 .left)) _ (decoded-at (l .place) (a .session .now) _ _ (c .before .before .before .before .decode .ensures) (c .before .before .why .given .1)))
 
-cast-t30 : tie.Need-cast-t30 Inv-loop μ-loop
-cast-t30 c = search needs
-
-cast-t31 : tie.Need-cast-t31 Inv-loop μ-loop
-cast-t31 c = search needs
+stopped-requires-3 : tie.Need-stopped-requires-3 Inv-loop μ-loop
+stopped-requires-3 c κs = (omega arith, omega arith)
 
 same-length-7 : tie.Need-same-length-7 Inv-loop μ-loop
 same-length-7 c = search needs
@@ -148,9 +139,9 @@ same-length-9 c = search needs
 
 returns-3 : tie.Need-returns-3 Inv-loop μ-loop
 returns-3 c =
-    let l = c .before .loop in
-    let a = c .before .before .before .before .before .before .args in
-    ends (a .left) (a .session .now) (a .replies .now) _ (l .taken) (l .place) (l .store) (l .players) (l .replies) (l .inv .0) (c .loop-test .left)
+    let l = c .before .before .loop in
+    let a = c .before .before .before .before .before .before .before .args in
+    rw (c .stopped3 .ensures) (ends (a .left) (a .session .now) (a .replies .now) _ (l .taken) (l .place) (l .store) (l .players) (l .replies) (l .inv .0) (c .before .loop-test .left))
 
 pub take-spec : {M : Type 1} → statement M
 take-spec =
@@ -159,8 +150,7 @@ take-spec =
     Inv-loop
     μ-loop
     loop-holds
-    cast-t14
-    cast-t15
+    stopped-requires
     same-length
     same-length-2
     same-length-3
@@ -178,14 +168,12 @@ take-spec =
     loop-less
     loop-again
     enum-known-why
-    cast-t28
-    cast-t29
+    stopped-requires-2
     same-length-4
     same-length-5
     same-length-6
     returns-2
-    cast-t30
-    cast-t31
+    stopped-requires-3
     same-length-7
     same-length-8
     same-length-9
