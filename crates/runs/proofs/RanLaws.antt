@@ -22,7 +22,7 @@ use Rattle.session.proofs.MarkLaws.{begins-take}
 use Rattle.session.proofs.WriteLaws.{take-whole}
 
 -- no more records than the budget, and than the places
-allowed-few : (budget places : ℕ) → (allowed budget places ≤ budget) × (allowed budget places ≤ places)
+pub allowed-few : (budget places : ℕ) → (allowed budget places ≤ budget) × (allowed budget places ≤ places)
 allowed-few budget places = by (leb budget places) refl
   where
     by : (b : Bool) → leb budget places ≡ b → (cond b budget places ≤ budget) × (cond b budget places ≤ places)
