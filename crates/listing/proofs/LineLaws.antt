@@ -1,14 +1,13 @@
 -- Lines: how long they are, one put at a place of the text, and those of replies one by one.
 -- Assumes nothing.
-use mathlib.Core.Path.{_≡_, _∙_, refl, sym, ap}
+use mathlib.Core.Path.{_≡_, _∙_, sym, ap}
 use mathlib.Core.Bool.{Bool, true, false, cond}
 use mathlib.Core.List.{List, [], _∷_, _++_, append-assoc, append-nil}
 use Prim.Native.Nat.{ℕ, zero, suc, _+_, _-_, _*_, _/_, _%_, _≤_, _<_}
 use native.Mathlib.Omega.{arith}
-use native.Mathlib.Nat.{add-zero}
 use lib.Dec.{ltb}
-use lib.ListN.{length, take, drop, getD, length-append, length-drop}
-use lib.Seq.{take-all, length-take-le, take-append-add, take-append-seam, getD-drop, drop-drop}
+use lib.ListN.{length, take, drop, length-append, length-drop}
+use lib.Seq.{take-all, length-take-le, take-append-add, take-append-seam}
 use borrow.Author.Tests.{le-ltb}
 use borrow.Rule.Slice.PartMut.{putMid}
 use Rattle.store.specs.declared.Reply.{Reply}
@@ -16,8 +15,7 @@ use Rattle.session.specs.declared.Report.{Report}
 use Rattle.session.specs.Listing.{digits, decimal, three, header, reply-line, reply-lines, end-line}
 use Rattle.session.specs.Written.{Wrote, wrote, written}
 use Rattle.session.specs.Text.{Puts}
-use Rattle.session.specs.Runs.{words}
-use Rattle.listing.specs.Shown.{reply-at, shown}
+use Rattle.runs.specs.Calls.{reply-at, replies-from}
 
 -- ---- lengths
 
@@ -80,7 +78,7 @@ header-put out part r h e =
 
 -- i lines of n are put, up to the place `at`
 pub record Lined (list : List ℕ) (n i at : ℕ) (out : List ℕ) : Type 0 where
-  pub stands : take at out ++ shown list i (n - i) ≡ header ++ shown list 0 n
+  pub stands : take at out ++ reply-lines (i + 1) (replies-from list i (n - i)) ≡ header ++ reply-lines 1 (replies-from list 0 n)
   pub most : i ≤ n
   pub ends : at ≤ 14 + 44 * i
 
@@ -91,38 +89,25 @@ none-lined list n at out e h =
 
 pub one-lined : (list : List ℕ) (n i at r : ℕ) (out out′ : List ℕ) → Lined list n i at out → i < n
     → Puts (reply-line (i + 1) (reply-at list i)) 44 at out out′ r → Lined list n (i + 1) r out′
-unfolding shown
+unfolding replies-from
 one-lined list n i at r out out′ l h p =
     let z : n - i ≡ suc (n - (i + 1)) = omega arith in
     let line = reply-line (i + 1) (reply-at list i) in
-    let rest = shown list (i + 1) (n - (i + 1)) in
+    let rest = reply-lines (i + 1 + 1) (replies-from list (i + 1) (n - (i + 1))) in
     record {
       stands =
           ap (λ (k : List ℕ). k ++ rest) (p .stands)
           ∙ append-assoc (take at out) line rest
-          ∙ ap (λ (k : ℕ). take at out ++ shown list i k) (sym z)
+          ∙ ap (λ (k : ℕ). take at out ++ reply-lines (i + 1) (replies-from list i k)) (sym z)
           ∙ l .stands;
       most = omega arith;
       ends = omega (arith, p .ends, l .ends);
     }
 
 pub all-lined : (list : List ℕ) (n i at r : ℕ) (out out′ text : List ℕ) → Lined list n i at out → n ≤ i
-    → Puts text 37 at out out′ r → take r out′ ≡ header ++ (shown list 0 n ++ text)
-unfolding shown
+    → Puts text 37 at out out′ r → take r out′ ≡ header ++ (reply-lines 1 (replies-from list 0 n) ++ text)
+unfolding replies-from
 all-lined list n i at r out out′ text l h p =
     let z : n - i ≡ 0 = omega (arith, l .most) in
-    let e : take at out ≡ header ++ shown list 0 n = sym (append-nil (take at out)) ∙ ap (λ (k : ℕ). take at out ++ shown list i k) (sym z) ∙ l .stands in
-    p .stands ∙ ap (λ (k : List ℕ). k ++ text) e ∙ append-assoc header (shown list 0 n) text
-
--- the lines of replies that stand in the list, one after the other
-pub shown-words : (rs : List Reply) (list rest : List ℕ) (i : ℕ) → drop (3 * i) list ≡ words rs ++ rest → shown list i (length rs) ≡ reply-lines (i + 1) rs
-unfolding shown
-shown-words [] list rest i e = refl
-shown-words (r ∷ rs) list rest i e =
-    let at : (k : ℕ) → getD (drop (3 * i) list) k 0 ≡ getD list (3 * i + k) 0 = λ k. getD-drop (3 * i) list k 0 in
-    let a : getD list (3 * i) 0 ≡ r .code = ap (λ (k : ℕ). getD list k 0) (sym (add-zero (3 * i))) ∙ sym (at 0) ∙ ap (λ (l : List ℕ). getD l 0 0) e in
-    let b : getD list (3 * i + 1) 0 ≡ r .a = sym (at 1) ∙ ap (λ (l : List ℕ). getD l 1 0) e in
-    let c : getD list (3 * i + 2) 0 ≡ r .b = sym (at 2) ∙ ap (λ (l : List ℕ). getD l 2 0) e in
-    let n : 3 * (i + 1) ≡ 3 * i + 3 = omega arith in
-    let d : drop (3 * (i + 1)) list ≡ words rs ++ rest = ap (λ (k : ℕ). drop k list) n ∙ sym (drop-drop 3 (3 * i) list) ∙ ap (drop 3) e in
-    rw (a, b, c) (ap (λ (l : List ℕ). reply-line (i + 1) r ++ l) (shown-words rs list rest (i + 1) d))
+    let e : take at out ≡ header ++ reply-lines 1 (replies-from list 0 n) = sym (append-nil (take at out)) ∙ ap (λ (k : ℕ). take at out ++ reply-lines (i + 1) (replies-from list i k)) (sym z) ∙ l .stands in
+    p .stands ∙ ap (λ (k : List ℕ). k ++ text) e ∙ append-assoc header (reply-lines 1 (replies-from list 0 n)) text

@@ -3,9 +3,9 @@
 use mathlib.Core.Path.{_≡_, _∙_, ap}
 use mathlib.Core.Bool.{true}
 use mathlib.Core.List.{List, _++_}
-use Prim.Native.Nat.{ℕ, _*_, _/_, _≤_}
+use Prim.Native.Nat.{ℕ, _/_, _≤_}
 use native.Mathlib.Omega.{arith}
-use lib.ListN.{length, take, drop}
+use lib.ListN.{length, take}
 use Rattle.store.specs.Table.{tableOf as store-table}
 use Rattle.store.specs.declared.Reply.{Reply}
 use Rattle.players.specs.Rules.{fresh}
@@ -14,16 +14,15 @@ use Rattle.players.specs.Calls.{Done, left, whole, made-fresh}
 use Rattle.session.specs.declared.Report.{Report}
 use Rattle.session.specs.Runs.{run, words, filled}
 use Rattle.session.specs.Listing.{header, reply-lines, end-line, printed}
-use Rattle.runs.specs.Calls.{Finished, finished, encoded, ran}
+use Rattle.runs.specs.Calls.{Finished, finished, encoded, ran, replies-from}
+use Rattle.runs.proofs.LoopLaws.{replies-filled}
 use Rattle.runs.proofs.FreshRuns.{counted, fresh-ran}
-use Rattle.listing.specs.Shown.{shown}
-use Rattle.listing.proofs.LineLaws.{shown-words}
 
 -- a report and a list of words are those of the run that the program prints
 pub record Told (session : List ℕ) (report : Report) (list : List ℕ) : Type 0 where
   pub reported : report ≡ run fresh session 16384 5460 .report
   pub few : report .records ≤ 5460
-  pub lines : shown list 0 (report .records) ≡ reply-lines 1 (run fresh session 16384 5460 .replies)
+  pub replies : replies-from list 0 (report .records) ≡ run fresh session 16384 5460 .replies
 
 -- from tables that were made fresh
 pub told : (st₀ t₀ : List ℕ) (a : Reply) (st t : List ℕ) → whole st₀ t₀ ≡ true → left a st t ≡ made-fresh st₀ t₀
@@ -45,13 +44,13 @@ told st₀ t₀ a st t w f session list n report list′ st′ t′ e =
     record {
       reported = m;
       few = omega (arith, c .few);
-      lines = ap (λ (i : ℕ). shown list′ 0 i) k ∙ shown-words rs list′ (drop (3 * length rs) list) 0 l;
+      replies = rw (k, l) (replies-filled list rs);
     }
 
 -- its lines are what the program prints
 pub is-printed : (session : List ℕ) (report : Report) (list : List ℕ) → Told session report list → (r : ℕ) (out : List ℕ)
-    → take r out ≡ header ++ (shown list 0 (report .records) ++ end-line report) → take r out ≡ printed session
+    → take r out ≡ header ++ (reply-lines 1 (replies-from list 0 (report .records)) ++ end-line report) → take r out ≡ printed session
 is-printed session report list h r out e =
     e
-    ∙ ap (λ (l : List ℕ). header ++ (l ++ end-line report)) (h .lines)
+    ∙ ap (λ (l : List Reply). header ++ (reply-lines 1 l ++ end-line report)) (h .replies)
     ∙ ap (λ (x : Report). header ++ (reply-lines 1 (run fresh session 16384 5460 .replies) ++ end-line x)) (h .reported)

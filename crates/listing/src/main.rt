@@ -5,9 +5,9 @@ ghost use mathlib.Core.Path.{_≡_};
 ghost use mathlib.Core.List.{_++_};
 ghost use Prim.Native.Nat.{_+_, _*_, _≤_};
 ghost use lib.ListN.{length, take};
-ghost use Rattle.session.specs.Listing.{header, reply-line, end-line, printed};
+ghost use Rattle.session.specs.Listing.{header, reply-line, reply-lines, end-line, printed};
 ghost use Rattle.session.specs.Text.{Puts};
-ghost use Rattle.listing.specs.Shown.{reply-at, shown};
+ghost use Rattle.runs.specs.Calls.{reply-at, replies-from};
 
 // Puts the line of the reply that stands at a place of the list, and gives the place after it.
 fn reply_line(replies: &[u32], i: usize, out: &mut [u8], at: usize) -> usize
@@ -36,7 +36,7 @@ fn end_line(report: Report, out: &mut [u8], at: usize) -> usize
 // Puts the lines of a run: the header, the replies and the last line.
 fn lines(report: Report, replies: &[u32], out: &mut [u8]) -> usize
     requires { ⌜ (3 * report .records ≤ length (now replies)) × (44 * report .records + 51 ≤ length (now out)) ⌝ }
-    ensures { λ r. ⌜ (r ≤ length (now (out .exit))) × (take r (now (out .exit)) ≡ header ++ (shown (now (replies .entry)) 0 (report .records) ++ end-line report)) ⌝ }
+    ensures { λ r. ⌜ (r ≤ length (now (out .exit))) × (take r (now (out .exit)) ≡ header ++ (reply-lines 1 (replies-from (now (replies .entry)) 0 (report .records)) ++ end-line report)) ⌝ }
 {
     let first = session::listing::header(out);
     let mut at = first.a as usize;

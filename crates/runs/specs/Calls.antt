@@ -2,11 +2,13 @@
 -- Assumes nothing.
 use mathlib.Core.Path.{_≡_}
 use mathlib.Core.Bool.{true, cond}
-use mathlib.Core.List.{List}
-use Prim.Native.Nat.{ℕ, _*_, _≤_}
+use mathlib.Core.List.{List, [], _∷_}
+use Prim.Native.Nat.{ℕ, zero, suc, _+_, _*_, _≤_}
 use lib.Dec.{T, ltb}
-use lib.ListN.{length}
+use lib.ListN.{length, getD}
 use Rattle.store.specs.Table.{tableOf as store-table}
+use Rattle.store.specs.declared.Reply.{Reply}
+use Rattle.players.specs.Replies.{reply}
 use Rattle.players.specs.Table.{stateOf, tableOf, valid}
 use Rattle.players.specs.Calls.{whole}
 use Rattle.session.specs.declared.Report.{Report}
@@ -47,3 +49,14 @@ pub record Ready (st t session : List ℕ) (left : ℕ) (list : List ℕ) : Type
   pub short : length session ≤ longest
   pub room : 3 * left ≤ length list
   pub few : left ≤ 4294967295
+
+-- ---- the replies that stand in a list for them
+
+-- in the i-th place, counted from 0: "three 32-bit numbers each"
+abbrev pub reply-at : List ℕ → ℕ → Reply
+reply-at list i = reply (getD list (3 * i) 0) (getD list (3 * i + 1) 0) (getD list (3 * i + 2) 0)
+
+-- in n places, from the i-th on
+unfoldable pub replies-from : List ℕ → ℕ → ℕ → List Reply
+replies-from list i zero = []
+replies-from list i (suc n) = reply-at list i ∷ replies-from list (i + 1) n

@@ -1,2 +1,0 @@
--- The lines of the replies that stand in a list of words (Shown).
-pub mod Shown
