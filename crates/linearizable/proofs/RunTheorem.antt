@@ -9,7 +9,6 @@ use lib.ListN.{length, drop}
 use Rattle.store.specs.declared.Reply.{Reply}
 use Rattle.players.specs.declared.Step.{Step}
 use Rattle.players.specs.Rules.{State, replies, fresh}
-use Rattle.players.specs.Calls.{whole}
 use Rattle.players.specs.Played.{AllFit, state-after, tablesOf}
 use Rattle.players.proofs.Tables.{state-table, ok-fresh}
 use Rattle.players.proofs.PlayedLaws.{ok-after}
@@ -17,7 +16,7 @@ use Rattle.session.specs.declared.Decoded.{Decoded}
 use Rattle.session.specs.declared.Decoded.the-variants.{Record, Refused}
 use Rattle.session.specs.Records.{decode, Bytes}
 use Rattle.session.specs.Mark.{mark, marked}
-use Rattle.session.specs.Runs.{Run, on-record, run, steps-from, steps, allowed, longest, whole-places}
+use Rattle.session.specs.Runs.{on-record, run, steps-from, steps, allowed, longest, whole-places}
 use Rattle.session.proofs.RunLaws.{bytes-drop}
 use Rattle.session.proofs.RoundTrip.{decoded-fits}
 use Rattle.runs.specs.Calls.{encoded, replies-from}
@@ -25,7 +24,7 @@ use Rattle.runs.proofs.LoopLaws.{replies-filled}
 use Rattle.runs.proofs.FreshRuns.{counted, fresh-ran}
 use Rattle.linearizable.specs.Claim.{LinearizableBy}
 use Rattle.linearizable.specs.Tables.{store-in}
-use Rattle.linearizable.specs.Runs.{LinearizableFinish, LinearizableRan}
+use Rattle.linearizable.specs.Runs.{LinearizableRan}
 use Rattle.linearizable.proofs.Theorem.{theorem}
 use Rattle.linearizable.proofs.SessionTheorem.{run-of-steps}
 
