@@ -1,0 +1,115 @@
+// Calls tried and shown, a line for each.
+use crate::make;
+use crate::show;
+use players::Step;
+use store::words;
+ghost use mathlib.Core.Path.{_≡_};
+ghost use mathlib.Core.Bool.{true};
+
+// Makes the tables fresh.
+pub(crate) fn fresh(store: &mut [u32; 1280], players: &mut [u32; 9473]) {
+    show::say(b"fresh");
+    show::reply(players::fresh(store, players));
+    show::say(b"\n");
+}
+
+// Takes a step.
+pub(crate) fn step(store: &mut [u32; 1280], players: &mut [u32; 9473], next: Step) {
+    show::step(next);
+    show::reply(steps::step(store, players, next));
+    show::say(b"\n");
+}
+
+// Player 0 requests a guard over 40 to 60, which is delivered and responded to.
+pub(crate) fn granted(store: &mut [u32; 1280], players: &mut [u32; 9473], serial: u32) {
+    step(store, players, make::request_guard(0, 40, 60));
+    step(store, players, make::deliver(serial));
+    step(store, players, make::respond(serial));
+}
+
+// Takes a step, and says whether each table is what it was.
+pub(crate) fn same_step(store: &mut [u32; 1280], players: &mut [u32; 9473], next: Step) {
+    let mut store_before = [0u32; 1280];
+    let mut players_before = [0u32; 9473];
+    words::copy(&mut store_before, store);
+    words::copy(&mut players_before, players);
+    show::step(next);
+    show::reply(steps::step(store, players, next));
+    same(store, &store_before);
+    same(players, &players_before);
+    show::say(b"\n");
+}
+
+// Lends the first words alone, of tables in which every word is 7, and says whether each table is what it was.
+pub(crate) fn same_part(
+    store: &mut [u32; 1280],
+    first: u32,
+    players: &mut [u32; 9473],
+    second: u32,
+) {
+    let store_before = [7u32; 1280];
+    let players_before = [7u32; 9473];
+    words::fill(store, 7);
+    words::fill(players, 7);
+    show::lent(first, second);
+    part(store, first as usize, players, second as usize);
+    same(store, &store_before);
+    same(players, &players_before);
+    show::say(b"\n");
+}
+
+// The first words of each table.
+fn part(store: &mut [u32], n: usize, players: &mut [u32], m: usize) {
+    if n > store.len() {
+        return;
+    }
+    if m > players.len() {
+        return;
+    }
+    both(&mut store[0..n], &mut players[0..m]);
+}
+
+// Makes tables fresh and takes a step.
+fn both(store: &mut [u32], players: &mut [u32]) {
+    show::say(b", fresh");
+    show::reply(players::fresh(store, players));
+    show::say(b", ");
+    let next = make::split(9);
+    show::step(next);
+    show::reply(steps::step(store, players, next));
+}
+
+// Puts a word into a table.
+pub(crate) fn put(table: &mut [u32], at: u32, word: u32) {
+    let i = at as usize;
+    if i < table.len() {
+        table[i] = word;
+        show::put(at, word);
+    }
+}
+
+// Says whether a table is word for word what it was.
+fn same(now: &[u32], before: &[u32]) {
+    if are_same(now, before) {
+        show::say(b" same");
+    } else {
+        show::say(b" changed");
+    }
+}
+
+// Whether two tables are word for word the same.
+fn are_same(a: &[u32], b: &[u32]) -> bool
+    ensures { λ r. ⌜ (r ≡ true → now (a .entry) ≡ now (b .entry)) ⌝ }
+{
+    if a.len() != b.len() {
+        return false;
+    }
+    let mut i: usize = 0;
+    while i < a.len() {
+        if a[i] != b[i] {
+            return false;
+        }
+        i += 1;
+    }
+    true
+}
