@@ -1,0 +1,196 @@
+/* Famdrize: a store of 256 versioned entries, eight players with a cache each, and the sessions that record every step.
+ *
+ * The functions are those of the crate `exports`, proved against their contracts. `rt staticlib exports` makes the library to link,
+ * target/staticlib/libexports.a (x86-64 Linux). docs/FORMATS.md gives every table, record and reply to the word and the byte.
+ *
+ * Slices. A lent slice is a pointer and the number of its elements. The pointer is not null, also where the number is 0, and is aligned
+ * as its elements are; the slices of one call do not overlap unless both are const. Nothing is kept after the call, nothing is allocated,
+ * and there is no global state: calls on different tables may run at the same time.
+ *
+ * Every call ends and keeps to the slices it is lent, whatever they hold. A refusal is its number and zeros, and alters nothing. */
+#ifndef FAMDRIZE_H
+#define FAMDRIZE_H
+
+#include <stdbool.h>
+#include <stddef.h>
+#include <stdint.h>
+
+#ifdef __cplusplus
+extern "C" {
+#endif
+
+/* Words of the two tables, places of the lent list of requests, bytes of the longest session and of the longest record. */
+#define FAMDRIZE_STORE_WORDS 1280
+#define FAMDRIZE_PLAYERS_WORDS 9473
+#define FAMDRIZE_REQUESTS 64
+#define FAMDRIZE_SESSION_BYTES 16384
+#define FAMDRIZE_RECORD_BYTES 8
+
+/* The kinds of steps. Beside each stand the fields it has; the others are 0. A range goes from entry `entry` up to, not including, `high`. */
+enum famdrize_kind {
+    FAMDRIZE_ASSIGN = 1,          /* player, entry, high */
+    FAMDRIZE_RELEASE = 2,         /* entry, high */
+    FAMDRIZE_REQUEST_GUARD = 3,   /* player, entry, high: ask for a guard */
+    FAMDRIZE_READ = 4,            /* player, entry */
+    FAMDRIZE_WRITE = 5,           /* player, entry, value */
+    FAMDRIZE_DELIVER = 6,         /* serial: the request arrives at the store */
+    FAMDRIZE_RESPOND = 7,         /* serial: the answer reaches the player */
+    FAMDRIZE_ABANDON = 8,         /* serial: the player gives the request up */
+    FAMDRIZE_LOSE = 9,            /* serial: the given-up request is lost */
+    FAMDRIZE_SPLIT = 10,          /* entry */
+    FAMDRIZE_MERGE = 11,          /* entry */
+    FAMDRIZE_RESTART_TABLET = 12, /* entry */
+    FAMDRIZE_RESTART_PLAYER = 13  /* player */
+};
+
+/* What a reply's code says. Its two numbers a and b stand beside it. */
+enum famdrize_code {
+    FAMDRIZE_DONE = 0,           /* 0, 0; of the store used alone and of the calls that write, what the call says */
+    FAMDRIZE_ISSUED = 1,         /* serial, 0 */
+    FAMDRIZE_CACHE_READ = 2,     /* version, value: read from memory */
+    FAMDRIZE_STORE_READ = 3,     /* version, value: read from the store */
+    FAMDRIZE_COMMITTED = 4,      /* serial, value */
+    FAMDRIZE_REJECTED = 5,       /* serial, 0: turned back */
+    FAMDRIZE_GRANTED = 6,        /* serial, 0 */
+    FAMDRIZE_NOT_HELD = 7,       /* serial, 0 */
+    FAMDRIZE_LAYOUT_CHANGED = 8, /* serial, 0 */
+    FAMDRIZE_SPENT = 9,          /* of a run's report alone: the budget or the list's whole places are spent */
+    /* refusals: 0, 0 */
+    FAMDRIZE_TABLE_LENGTH = 21,      /* a table of the wrong length */
+    FAMDRIZE_TABLE_RULES = 22,       /* a table that breaks a rule */
+    FAMDRIZE_NO_MARK = 23,           /* the session's mark is wrong or missing */
+    FAMDRIZE_CUT_SHORT = 24,         /* a record cut short, or no byte */
+    FAMDRIZE_UNKNOWN_FIELD = 25,     /* bit 6 or 7 of a record's map stands */
+    FAMDRIZE_UNKNOWN_KIND = 26,      /* the kind is not 1 to 13 */
+    FAMDRIZE_WRONG_FIELDS = 27,      /* other fields than the kind's */
+    FAMDRIZE_OUT_OF_RANGE = 28,      /* player above 7, an empty range or one past 256, split or merge at entry 0 */
+    FAMDRIZE_NOT_OWNER = 29,         /* not owner of every entry */
+    FAMDRIZE_NO_LIVE_GUARD = 30,     /* no live guard */
+    FAMDRIZE_ALREADY_REQUESTED = 31, /* a pending guard request of this player shares an entry */
+    FAMDRIZE_NO_SUCH_REQUEST = 32,   /* no request that this step fits */
+    FAMDRIZE_NO_PLACE_LEFT = 33,     /* all 64 places are taken */
+    FAMDRIZE_NO_SERIAL_LEFT = 34,    /* serial 4,000,000 was issued */
+    FAMDRIZE_WRONG_BOUNDARY = 35,    /* split at a boundary, merge where none is */
+    FAMDRIZE_BUFFER_SHORT = 36,      /* a buffer shorter than what is to be written */
+    FAMDRIZE_SESSION_TOO_LONG = 37   /* a session of more than 16,384 bytes */
+};
+
+/* A code and two numbers. */
+typedef struct {
+    uint32_t code;
+    uint32_t a;
+    uint32_t b;
+} famdrize_reply;
+
+/* What stands at a place of a session: code 0 with the record's length in bytes and the step by its fields, those that its kind lacks 0;
+ * or the code of a refusal and zeros. */
+typedef struct {
+    uint32_t code;
+    uint32_t length;
+    uint32_t kind;
+    uint32_t player;
+    uint32_t entry; /* or a range's low */
+    uint32_t high;
+    uint32_t value;
+    uint32_t serial;
+} famdrize_decoded;
+
+/* Why a run stopped, the number of records taken, and the byte place just after them. */
+typedef struct {
+    uint32_t why;
+    uint32_t records;
+    uint32_t place;
+} famdrize_report;
+
+/* A request in flight. A place that is not used has serial 0. */
+typedef struct {
+    uint32_t serial;
+    uint8_t player;
+    uint8_t kind; /* 3, 4 or 5 */
+    uint8_t low;  /* the entry of a read or write, the first entry of a guard request */
+    uint16_t high;
+    uint32_t value;
+    uint32_t guard; /* the guard carried */
+    bool overlapped;
+    bool delivered;
+    bool abandoned;
+    uint32_t first; /* the outcome: 1 or 2 and 0, of a read version and value */
+    uint32_t second;
+} famdrize_request;
+
+/* ---- the two tables: the store's of 1,280 words, the players' of 9,473 */
+
+/* Makes both tables fresh: 0 0 0, or 21. */
+famdrize_reply famdrize_fresh(uint32_t *store, size_t store_words, uint32_t *players, size_t players_words);
+
+/* Whether both tables keep the rules: 0 0 0, or 21, 22. */
+famdrize_reply famdrize_check(const uint32_t *store, size_t store_words, const uint32_t *players, size_t players_words);
+
+/* Takes the step of this kind with these fields. First 26 where the kind is not 1 to 13, 27 where a field that the kind lacks is not 0;
+ * then the step's own: 21, 22, 28, 29, 30, 31, 32, 35, 33, 34, or one of the replies 0 to 8. */
+famdrize_reply famdrize_step(uint32_t *store, size_t store_words, uint32_t *players, size_t players_words, uint8_t kind, uint8_t player,
+                             uint8_t entry, uint16_t high, uint32_t value, uint32_t serial);
+
+/* Takes the steps of a session's records, at most `budget` of them and at most as many as the list has whole places, of three words each;
+ * their replies are put into the list in order, and places not filled keep what they had. A refused step is taken and replied to, and the
+ * run goes on. Why: 21, 22, 37, 23 refuse the run, which then reports 0 records and place 0 and alters nothing; 0 at the session's end;
+ * 9 where budget or list is spent; 24 to 27 where a record is refused, and the steps before it keep their effect. */
+famdrize_report famdrize_run(uint32_t *store, size_t store_words, uint32_t *players, size_t players_words, const uint8_t *session,
+                             size_t session_bytes, uint32_t budget, uint32_t *replies, size_t replies_words);
+
+/* ---- records and the session's mark */
+
+/* The record at the start of these bytes; bytes after it are ignored. Refusals: 24 if empty, 25, 24, 27 if the kind is missing, 26, 27. */
+famdrize_decoded famdrize_decode(const uint8_t *part, size_t part_bytes);
+
+/* Writes the record of the step of this kind with these fields to the start of the buffer, and keeps what follows: 0, its length (3 to 8),
+ * 0; or 26, 27 as famdrize_step, then 36. A step that would be refused can be written. */
+famdrize_reply famdrize_encode(uint8_t kind, uint8_t player, uint8_t entry, uint16_t high, uint32_t value, uint32_t serial, uint8_t *out,
+                               size_t out_bytes);
+
+/* Writes the mark, 52 53 4C 31, to the start of the buffer, and keeps what follows: 0 4 0, or 36. */
+famdrize_reply famdrize_put_mark(uint8_t *out, size_t out_bytes);
+
+/* Whether the session begins with the mark. */
+bool famdrize_marked(const uint8_t *session, size_t session_bytes);
+
+/* ---- the requests in flight as a lent list of records */
+
+/* How many pending requests of the player the list holds: 0, count, 0; or 21 unless it has 64 places, then 28. Nothing else is tested. */
+famdrize_reply famdrize_waiting(const famdrize_request *requests, size_t requests_places, uint8_t player);
+
+/* ---- the store used alone: its table of 1,280 words, without any player. Serials are 1 to 4,000,000. */
+
+/* Makes the table fresh: 0 0 0, or 21. */
+famdrize_reply famdrize_store_fresh(uint32_t *store, size_t store_words);
+
+/* Whether the table keeps the rules: 0 0 0, or 21, 22. */
+famdrize_reply famdrize_store_check(const uint32_t *store, size_t store_words);
+
+/* The same, where `last` is the last serial issued. */
+famdrize_reply famdrize_store_check_at(const uint32_t *store, size_t store_words, uint32_t last);
+
+/* Sets a guard, numbered by its serial, over entries low up to high: 0 1 0; 0 2 0 where they do not lie in one tablet; or 21, 22, 28. */
+famdrize_reply famdrize_store_set_guard(uint32_t *store, size_t store_words, uint8_t low, uint16_t high, uint32_t serial);
+
+/* The entry's version and value: 0, version, value; or 21, 22. */
+famdrize_reply famdrize_store_read(const uint32_t *store, size_t store_words, uint8_t entry);
+
+/* A write that carries a guard: 0 1 0 where it commits, since that guard is the entry's and not 0; else 0 2 0; or 21, 22, 28. The same
+ * write handed in twice may commit twice. */
+famdrize_reply famdrize_store_write(uint32_t *store, size_t store_words, uint8_t entry, uint32_t value, uint32_t serial, uint32_t guard);
+
+/* Sets a boundary before the entry: 0 0 0; or 21, 22, 28 at entry 0, 35 where there is one. */
+famdrize_reply famdrize_store_split(uint32_t *store, size_t store_words, uint8_t entry);
+
+/* Removes the boundary before the entry: 0 0 0; or 21, 22, 28 at entry 0, 35 where there is none. */
+famdrize_reply famdrize_store_merge(uint32_t *store, size_t store_words, uint8_t entry);
+
+/* The guards of the tablet that holds the entry become 0: 0 0 0; or 21, 22. */
+famdrize_reply famdrize_store_restart(uint32_t *store, size_t store_words, uint8_t entry);
+
+#ifdef __cplusplus
+}
+#endif
+
+#endif
