@@ -47,7 +47,7 @@ known (RestartPlayer p) = known-by (RestartPlayer p) tt tt refl refl
 
 -- P holds of each of the n numbers from i on
 infixr 5 _&_
-data Each (P : ℕ → Type 0) : ℕ → ℕ → Type 0 where
+pub data Each (P : ℕ → Type 0) : ℕ → ℕ → Type 0 where
   none : {i : ℕ} → Each P i zero
   _&_ : {i n : ℕ} → P i → Each P (suc i) n → Each P i (suc n)
 
@@ -57,7 +57,7 @@ at {P} {i} (p & ps) zero h = subst (λ (j : ℕ). P j) (sym (add-zero i)) p
 at {P} {i} (p & ps) (suc k) h = subst (λ (j : ℕ). P j) (suc-add i k ∙ sym (add-suc i k)) (at ps k (le-of-suc-le-suc h))
 
 -- a fact of each kind
-each-kind : (P : ℕ → Type 0) → Each P 1 13 → (k : ℕ) → 1 ≤ k → k ≤ 13 → P k
+pub each-kind : (P : ℕ → Type 0) → Each P 1 13 → (k : ℕ) → 1 ≤ k → k ≤ 13 → P k
 each-kind P ps zero f t = absurd (not-suc-le-zero f)
 each-kind P ps (suc k) f t = subst P (add-comm 1 k ∙ add-one k) (at ps k t)
 

@@ -1,0 +1,2 @@
+-- Laws: a step by its six numbers (FieldLaws).
+pub mod FieldLaws
