@@ -1,2 +1,3 @@
--- Laws: a step by its six numbers (FieldLaws).
+-- Laws: a step by its six numbers (FieldLaws), and the numbers of a record (RecordLaws).
 pub mod FieldLaws
+pub mod RecordLaws

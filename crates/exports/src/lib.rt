@@ -1,4 +1,6 @@
 // The calls for programs in C or Rust (include/famdrize.h): numbers, lent slices of numbers, and structs of numbers laid out as C does.
+pub mod alone;
+pub mod records;
 mod step_fields;
 pub mod tables;
 
@@ -14,6 +16,19 @@ pub struct Answer {
     pub code: u32,
     pub a: u32,
     pub b: u32,
+}
+
+// What stands at a place of a session: code 0, the record's length and the step by its fields, or the code of a refusal and zeros.
+#[repr(C)]
+pub struct RecordFields {
+    pub code: u32,
+    pub length: u32,
+    pub kind: u32,
+    pub player: u32,
+    pub entry: u32,
+    pub high: u32,
+    pub value: u32,
+    pub serial: u32,
 }
 
 // A step by its fields, those that its kind lacks 0.
