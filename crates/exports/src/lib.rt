@@ -1,5 +1,6 @@
 // The calls for programs in C or Rust (include/famdrize.h): numbers, lent slices of numbers, and structs of numbers laid out as C does.
 pub mod alone;
+pub mod lent;
 pub mod records;
 mod step_fields;
 pub mod tables;

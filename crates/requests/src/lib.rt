@@ -6,6 +6,7 @@ mod rules;
 mod tests;
 
 // A request in flight (document: row). Fields that its kind lacks are 0, and so is the outcome before delivery.
+#[repr(C)]
 pub struct Request {
     pub serial: u32,
     pub player: u8,
