@@ -1,0 +1,196 @@
+//! Records, and sessions made of them.
+
+use crate::{raw, Fields, Refusal, Step};
+
+/// What stands at a place of a session.
+#[derive(Clone, Copy, Debug, PartialEq, Eq)]
+pub struct Record {
+    /// The step by its fields. A record may hold a step that is refused; [`Step::try_from`] tells.
+    pub fields: Fields,
+    /// Its bytes, 3 to 8.
+    pub length: usize,
+}
+
+/// The record at the start of these bytes; bytes after it are ignored. 24 if there is no byte, 25, 24, 27 if the kind is missing, 26, 27.
+pub fn decode(part: &[u8]) -> Result<Record, Refusal> {
+    // SAFETY: a slice with its length.
+    let r = unsafe { raw::famdrize_decode(part.as_ptr(), part.len()) };
+    Refusal::of_code(r.code)?;
+    let byte = |number: u32| u8::try_from(number).expect("a field of one byte");
+    Ok(Record {
+        fields: Fields {
+            kind: byte(r.kind),
+            player: byte(r.player),
+            entry: byte(r.entry),
+            high: u16::try_from(r.high).expect("a field of two bytes"),
+            value: r.value,
+            serial: r.serial,
+        },
+        length: r.length as usize,
+    })
+}
+
+/// Writes the record of a step, or of fields, to the start of the buffer, keeps what follows, and tells its length: 26 and 27 for fields
+/// that are no step's, 36 for a buffer that is shorter. A step that would be refused can be written.
+pub fn encode(step: impl Into<Fields>, out: &mut [u8]) -> Result<usize, Refusal> {
+    let Fields { kind, player, entry, high, value, serial } = step.into();
+    // SAFETY: a slice with its length.
+    let reply = unsafe { raw::famdrize_encode(kind, player, entry, high, value, serial, out.as_mut_ptr(), out.len()) };
+    Refusal::of_code(reply.code)?;
+    Ok(reply.a as usize)
+}
+
+/// Writes the session's mark to the start of the buffer, keeps what follows, and tells its length, 4: 36 for a buffer that is shorter.
+pub fn put_mark(out: &mut [u8]) -> Result<usize, Refusal> {
+    // SAFETY: a slice with its length.
+    let reply = unsafe { raw::famdrize_put_mark(out.as_mut_ptr(), out.len()) };
+    Refusal::of_code(reply.code)?;
+    Ok(reply.a as usize)
+}
+
+/// Whether the session begins with the mark.
+pub fn is_marked(session: &[u8]) -> bool {
+    // SAFETY: a slice with its length.
+    unsafe { raw::famdrize_marked(session.as_ptr(), session.len()) }
+}
+
+/// A session that is written: the mark, then a record for each step.
+#[derive(Clone, Debug, PartialEq, Eq)]
+pub struct Session {
+    bytes: Vec<u8>,
+}
+
+impl Session {
+    /// Bytes of the longest session.
+    pub const MOST_BYTES: usize = 16_384;
+
+    /// A session without a record.
+    pub fn new() -> Session {
+        let mut bytes = vec![0; 4];
+        put_mark(&mut bytes).expect("four bytes hold the mark");
+        Session { bytes }
+    }
+
+    /// Adds a step's record: 37 if the session would be too long.
+    pub fn push(&mut self, step: Step) -> Result<(), Refusal> {
+        let mut record = [0; 8];
+        let length = encode(step, &mut record).expect("eight bytes hold a step's record");
+        if self.bytes.len() + length > Session::MOST_BYTES {
+            return Err(Refusal::SessionTooLong);
+        }
+        self.bytes.extend_from_slice(&record[..length]);
+        Ok(())
+    }
+
+    /// Its bytes.
+    pub fn bytes(&self) -> &[u8] {
+        &self.bytes
+    }
+}
+
+impl Default for Session {
+    fn default() -> Session {
+        Session::new()
+    }
+}
+
+#[cfg(test)]
+mod tests {
+    use super::*;
+    use crate::{Player, Range};
+
+    #[test]
+    fn empty_slices_are_passed_with_length_0() {
+        assert_eq!(decode(&[]), Err(Refusal::CutShort));
+        assert_eq!(encode(Step::Split { entry: 1 }, &mut []), Err(Refusal::BufferShort));
+        assert_eq!(put_mark(&mut []), Err(Refusal::BufferShort));
+        assert!(!is_marked(&[]));
+        assert!(!is_marked(&Vec::new()));
+    }
+
+    #[test]
+    fn a_slice_is_passed_with_its_own_length() {
+        let bytes = [0x05, 0x0A, 0x80, 0x52, 0x53, 0x4C, 0x31, 0x05];
+        assert_eq!(decode(&bytes[..2]), Err(Refusal::CutShort));
+        assert_eq!(decode(&bytes[..3]).map(|r| r.length), Ok(3));
+        assert_eq!(decode(&bytes[7..]), Err(Refusal::CutShort));
+        assert_eq!(decode(&bytes[8..]), Err(Refusal::CutShort));
+        assert!(is_marked(&bytes[3..]));
+        assert!(is_marked(&bytes[3..7]));
+        assert!(!is_marked(&bytes[3..6]));
+    }
+
+    #[test]
+    fn records_are_refused_in_their_order() {
+        // "Records: none 24; 40: 25; 02 00: 27; 01 C8: 26; 03 04 00: 27; 07 04 00: 24."
+        assert_eq!(decode(&[0x40]), Err(Refusal::UnknownField));
+        assert_eq!(decode(&[0x02, 0x00]), Err(Refusal::WrongFields));
+        assert_eq!(decode(&[0x01, 0xC8]), Err(Refusal::UnknownKind));
+        assert_eq!(decode(&[0x03, 0x04, 0x00]), Err(Refusal::WrongFields));
+        assert_eq!(decode(&[0x07, 0x04, 0x00]), Err(Refusal::CutShort));
+    }
+
+    /// A step of each map, with its bytes.
+    fn samples() -> [(Step, &'static [u8]); 7] {
+        let player = Player::new(1).unwrap();
+        let range = Range::new(40, 256).unwrap();
+        [
+            (Step::Assign { player, range }, &[0x0F, 1, 1, 40, 0x00, 0x01]),
+            (Step::Release { range }, &[0x0D, 2, 40, 0x00, 0x01]),
+            (Step::Read { player, entry: 45 }, &[0x07, 4, 1, 45]),
+            (Step::Write { player, entry: 45, value: 0x0403_0201 }, &[0x17, 5, 1, 45, 1, 2, 3, 4]),
+            (Step::Respond { serial: 0x0403_0201 }, &[0x21, 7, 1, 2, 3, 4]),
+            (Step::Merge { entry: 45 }, &[0x05, 11, 45]),
+            (Step::RestartPlayer { player }, &[0x03, 13, 1]),
+        ]
+    }
+
+    #[test]
+    fn a_record_is_written_and_reads_back() {
+        for (step, bytes) in samples() {
+            let mut out = [0xEE; 10];
+            assert_eq!(encode(step, &mut out), Ok(bytes.len()));
+            assert_eq!(&out[..bytes.len()], bytes);
+            assert!(out[bytes.len()..].iter().all(|&b| b == 0xEE));
+            assert_eq!(decode(&out), Ok(Record { fields: step.into(), length: bytes.len() }));
+            let mut short = vec![0xEE; bytes.len() - 1];
+            assert_eq!(encode(step, &mut short), Err(Refusal::BufferShort));
+            assert!(short.iter().all(|&b| b == 0xEE));
+        }
+    }
+
+    #[test]
+    fn fields_that_are_no_steps_are_not_written() {
+        let mut out = [0xEE; 8];
+        let fields = Fields { kind: 10, entry: 45, ..Fields::default() };
+        assert_eq!(encode(Fields { kind: 14, ..fields }, &mut out), Err(Refusal::UnknownKind));
+        assert_eq!(encode(Fields { value: 1, ..fields }, &mut out), Err(Refusal::WrongFields));
+        assert_eq!(out, [0xEE; 8]);
+        // a player of 9 can be written and read, and is no step
+        let read = Fields { kind: 4, player: 9, entry: 45, ..Fields::default() };
+        assert_eq!(encode(read, &mut out), Ok(4));
+        assert_eq!(decode(&out).map(|r| r.fields), Ok(read));
+        assert_eq!(Step::try_from(read), Err(Refusal::OutOfRange));
+    }
+
+    #[test]
+    fn a_session_is_the_mark_and_its_records() {
+        let mut session = Session::new();
+        assert_eq!(session.bytes(), [0x52, 0x53, 0x4C, 0x31]);
+        assert_eq!(session.push(Step::Split { entry: 128 }), Ok(()));
+        assert_eq!(session.push(Step::Deliver { serial: 2 }), Ok(()));
+        assert_eq!(session.bytes(), [0x52, 0x53, 0x4C, 0x31, 0x05, 0x0A, 0x80, 0x21, 0x06, 2, 0, 0, 0]);
+        assert!(is_marked(session.bytes()));
+    }
+
+    #[test]
+    fn a_session_ends_at_16384_bytes() {
+        let mut session = Session::new();
+        for _ in 0..5460 {
+            assert_eq!(session.push(Step::Split { entry: 1 }), Ok(()));
+        }
+        assert_eq!(session.bytes().len(), 16_384);
+        assert_eq!(session.push(Step::Split { entry: 1 }), Err(Refusal::SessionTooLong));
+        assert_eq!(session.bytes().len(), 16_384);
+    }
+}
