@@ -11,13 +11,20 @@ use Rattle.session.specs.declared.Decoded.{Decoded}
 use Rattle.session.specs.declared.Decoded.the-variants.{Record, Refused}
 use Rattle.session.specs.Records.{encode}
 use Rattle.session.specs.Written.{Wrote, wrote, written}
+use Rattle.session.specs.declared.Report.{Report}
+use Rattle.session.specs.Runs.{report}
 use Rattle.exports.specs.declared.Answer.{Answer}
+use Rattle.exports.specs.declared.Ended.{Ended}
 use Rattle.exports.specs.declared.RecordFields.{RecordFields}
 use Rattle.exports.specs.Fields.{numbers-of, stated, on-stated}
 
 -- the reply that an answer is
 abbrev pub reply-of : Answer → Reply
 reply-of x = reply (x .code) (x .a) (x .b)
+
+-- the report that a run's end is
+abbrev pub report-of : Ended → Report
+report-of x = report (x .why) (x .records) (x .place)
 
 -- the step of these numbers taken on the tables, or refused before they are looked at
 abbrev pub stepped : List ℕ → List ℕ → List ℕ → Done

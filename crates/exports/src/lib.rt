@@ -2,6 +2,7 @@
 pub mod alone;
 pub mod lent;
 pub mod records;
+pub mod running;
 mod step_fields;
 pub mod tables;
 
@@ -30,6 +31,14 @@ pub struct RecordFields {
     pub high: u32,
     pub value: u32,
     pub serial: u32,
+}
+
+// What a run reports: why it stopped, the number of records taken, and the byte place just after them.
+#[repr(C)]
+pub struct Ended {
+    pub why: u32,
+    pub records: u32,
+    pub place: u32,
 }
 
 // A step by its fields, those that its kind lacks 0.
