@@ -1,10 +1,11 @@
-/* The steps of README.md on fresh tables: each reply as code, a and b. */
+/* The steps and calls of README.md from C: each reply as code, a and b. steps.txt is what it prints. */
 #include "famdrize.h"
 
 #include <stdio.h>
 
 static uint32_t store[FAMDRIZE_STORE_WORDS];
 static uint32_t players[FAMDRIZE_PLAYERS_WORDS];
+static famdrize_request requests[FAMDRIZE_REQUESTS];
 
 static void print(const char *name, famdrize_reply r)
 {
@@ -16,17 +17,91 @@ static famdrize_reply step(uint8_t kind, uint8_t player, uint8_t entry, uint16_t
     return famdrize_step(store, FAMDRIZE_STORE_WORDS, players, FAMDRIZE_PLAYERS_WORDS, kind, player, entry, high, value, serial);
 }
 
-int main(void)
+static void steps(void)
 {
     print("fresh", famdrize_fresh(store, FAMDRIZE_STORE_WORDS, players, FAMDRIZE_PLAYERS_WORDS));
     print("assign", step(FAMDRIZE_ASSIGN, 0, 40, 60, 0, 0));
     print("read", step(FAMDRIZE_READ, 0, 45, 0, 0, 0));
     print("deliver", step(FAMDRIZE_DELIVER, 0, 0, 0, 0, 2));
     print("respond", step(FAMDRIZE_RESPOND, 0, 0, 0, 0, 2));
-    print("respond", step(FAMDRIZE_RESPOND, 0, 0, 0, 0, 2));
-    print("split", step(FAMDRIZE_SPLIT, 0, 128, 0, 1, 0));
-    print("kind", step(14, 0, 0, 0, 0, 0));
+    print("respond again", step(FAMDRIZE_RESPOND, 0, 0, 0, 0, 2));
+    print("split with a value", step(FAMDRIZE_SPLIT, 0, 128, 0, 1, 0));
+    print("kind 14", step(14, 0, 0, 0, 0, 0));
     print("check", famdrize_check(store, FAMDRIZE_STORE_WORDS, players, FAMDRIZE_PLAYERS_WORDS));
-    print("check", famdrize_check(store, FAMDRIZE_STORE_WORDS - 1, players, FAMDRIZE_PLAYERS_WORDS));
+    print("check one word less", famdrize_check(store, FAMDRIZE_STORE_WORDS - 1, players, FAMDRIZE_PLAYERS_WORDS));
+}
+
+static void store_alone(void)
+{
+    print("fresh", famdrize_store_fresh(store, FAMDRIZE_STORE_WORDS));
+    print("split", famdrize_store_split(store, FAMDRIZE_STORE_WORDS, 128));
+    print("set guard", famdrize_store_set_guard(store, FAMDRIZE_STORE_WORDS, 40, 60, 2));
+    print("write", famdrize_store_write(store, FAMDRIZE_STORE_WORDS, 45, 7, 3, 2));
+    print("write", famdrize_store_write(store, FAMDRIZE_STORE_WORDS, 45, 8, 4, 1));
+    print("read", famdrize_store_read(store, FAMDRIZE_STORE_WORDS, 45));
+    print("restart", famdrize_store_restart(store, FAMDRIZE_STORE_WORDS, 45));
+    print("write", famdrize_store_write(store, FAMDRIZE_STORE_WORDS, 45, 9, 5, 2));
+    print("merge", famdrize_store_merge(store, FAMDRIZE_STORE_WORDS, 128));
+    print("merge again", famdrize_store_merge(store, FAMDRIZE_STORE_WORDS, 128));
+    print("check", famdrize_store_check(store, FAMDRIZE_STORE_WORDS));
+    print("check at 2", famdrize_store_check_at(store, FAMDRIZE_STORE_WORDS, 2));
+}
+
+static void records(void)
+{
+    uint8_t session[4 + FAMDRIZE_RECORD_BYTES];
+    uint8_t empty[1];
+    famdrize_decoded d;
+
+    print("mark", famdrize_put_mark(session, sizeof session));
+    print("encode", famdrize_encode(FAMDRIZE_WRITE, 0, 45, 0, 7, 0, session + 4, sizeof session - 4));
+    for (size_t i = 0; i < sizeof session; i++)
+        printf("%02X%s", session[i], i + 1 < sizeof session ? " " : "\n");
+    d = famdrize_decode(session + 4, sizeof session - 4);
+    printf("decode %u, %u bytes: %u %u %u %u %u %u\n", (unsigned)d.code, (unsigned)d.length, (unsigned)d.kind, (unsigned)d.player,
+           (unsigned)d.entry, (unsigned)d.high, (unsigned)d.value, (unsigned)d.serial);
+    printf("decode no byte: %u\n", (unsigned)famdrize_decode(empty, 0).code);
+    printf("marked %d %d\n", famdrize_marked(session, sizeof session), famdrize_marked(session, 3));
+}
+
+static void waiting(void)
+{
+    requests[0] = (famdrize_request){.serial = 1, .player = 3, .kind = FAMDRIZE_READ, .low = 45};
+    requests[1] = (famdrize_request){.serial = 2, .player = 3, .kind = FAMDRIZE_READ, .low = 46, .abandoned = true};
+    requests[2] = (famdrize_request){.serial = 4, .player = 3, .kind = FAMDRIZE_READ, .low = 47};
+    print("waiting", famdrize_waiting(requests, FAMDRIZE_REQUESTS, 3));
+    print("waiting of player 8", famdrize_waiting(requests, FAMDRIZE_REQUESTS, 8));
+    print("waiting, one place less", famdrize_waiting(requests, FAMDRIZE_REQUESTS - 1, 3));
+}
+
+/* Player 0 gets entries 40 to 59 and asks for a guard; the budget ends before the third record. */
+static void run(void)
+{
+    static const uint8_t session[] = {0x52, 0x53, 0x4C, 0x31,                /* the mark */
+                                      0x0F, 0x01, 0x00, 0x28, 0x3C, 0x00,    /* assign */
+                                      0x0F, 0x03, 0x00, 0x28, 0x3C, 0x00,    /* ask for a guard */
+                                      0x21, 0x06, 0x02, 0x00, 0x00, 0x00};   /* arrive */
+    uint32_t replies[3 * 3] = {0};
+    famdrize_report r;
+
+    famdrize_fresh(store, FAMDRIZE_STORE_WORDS, players, FAMDRIZE_PLAYERS_WORDS);
+    r = famdrize_run(store, FAMDRIZE_STORE_WORDS, players, FAMDRIZE_PLAYERS_WORDS, session, sizeof session, 2, replies, 9);
+    printf("run %u %u %u\n", (unsigned)r.why, (unsigned)r.records, (unsigned)r.place);
+    for (size_t i = 0; i < 9; i += 3)
+        printf("reply %u %u %u\n", (unsigned)replies[i], (unsigned)replies[i + 1], (unsigned)replies[i + 2]);
+}
+
+int main(void)
+{
+    puts("steps");
+    steps();
+    puts("the store alone");
+    store_alone();
+    puts("records");
+    records();
+    puts("waiting requests");
+    waiting();
+    puts("a run");
+    run();
     return 0;
 }

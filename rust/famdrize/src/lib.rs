@@ -30,7 +30,7 @@ mod store;
 mod tables;
 
 pub use numbers::{Player, Range, Serial};
-pub use reply::{Refusal, Reply};
+pub use reply::{Refusal, Reply, Report, Why};
 pub use requests::{pending, Request};
 pub use session::{decode, encode, is_marked, put_mark, Record, Session};
 pub use step::{Fields, Step};

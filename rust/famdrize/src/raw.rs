@@ -27,6 +27,15 @@ pub struct Decoded {
     pub serial: u32,
 }
 
+/// Why a run stopped, the number of records taken, and the byte place just after them.
+#[repr(C)]
+#[derive(Clone, Copy, Debug, PartialEq, Eq)]
+pub struct Report {
+    pub why: u32,
+    pub records: u32,
+    pub place: u32,
+}
+
 /// A request in flight; a place that is not used has serial 0.
 #[repr(C)]
 #[derive(Clone, Copy, Debug, Default, PartialEq, Eq)]
@@ -64,6 +73,17 @@ extern "C" {
         value: u32,
         serial: u32,
     ) -> Reply;
+    pub fn famdrize_run(
+        store: *mut u32,
+        store_words: usize,
+        players: *mut u32,
+        players_words: usize,
+        session: *const u8,
+        session_bytes: usize,
+        budget: u32,
+        replies: *mut u32,
+        replies_words: usize,
+    ) -> Report;
 
     pub fn famdrize_decode(part: *const u8, part_bytes: usize) -> Decoded;
     pub fn famdrize_encode(

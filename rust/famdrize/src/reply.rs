@@ -99,6 +99,57 @@ impl Reply {
     }
 }
 
+/// What a run reports.
+#[derive(Clone, Copy, Debug, PartialEq, Eq)]
+pub struct Report {
+    /// Why it stopped.
+    pub why: Why,
+    /// The number of records taken.
+    pub records: u32,
+    /// The byte place just after them; 0 of a refused run.
+    pub place: u32,
+}
+
+/// Why a run stopped.
+#[derive(Clone, Copy, Debug, PartialEq, Eq)]
+pub enum Why {
+    /// 0: at the session's end.
+    End,
+    /// 9: the budget or the places for replies are spent.
+    Spent,
+    /// 23 or 37: the run is refused, and nothing is altered; 24 to 27: the record at the place is refused, and the steps before it keep
+    /// their effect.
+    Refused(Refusal),
+}
+
+impl Why {
+    /// Its number.
+    pub fn number(self) -> u32 {
+        match self {
+            Why::End => 0,
+            Why::Spent => 9,
+            Why::Refused(refusal) => refusal.number(),
+        }
+    }
+
+    /// The reason of this number; none if no run stops for it.
+    pub fn from_number(number: u32) -> Option<Why> {
+        match number {
+            0 => Some(Why::End),
+            9 => Some(Why::Spent),
+            _ => Refusal::from_number(number).map(Why::Refused),
+        }
+    }
+}
+
+impl Report {
+    /// A run's report, which has one of the reasons above by the library's contract.
+    pub(crate) fn of_run(r: raw::Report) -> Report {
+        let why = Why::from_number(r.why).expect("a run stops with 0, 9 or a refusal's number");
+        Report { why, records: r.records, place: r.place }
+    }
+}
+
 /// Why a call is refused.
 #[derive(Clone, Copy, Debug, PartialEq, Eq, Hash)]
 #[repr(u32)]
@@ -246,6 +297,17 @@ mod tests {
         }
         for numbers in [[0, 1, 0], [1, 7, 1], [9, 0, 0], [20, 0, 0], [32, 1, 0], [38, 0, 0]] {
             assert_eq!(Reply::from_numbers(numbers), None);
+        }
+    }
+
+    #[test]
+    fn reasons_to_stop_and_their_numbers() {
+        for (why, number) in [(Why::End, 0), (Why::Spent, 9), (Why::Refused(Refusal::NoMark), 23), (Why::Refused(Refusal::CutShort), 24)] {
+            assert_eq!(why.number(), number);
+            assert_eq!(Why::from_number(number), Some(why));
+        }
+        for number in [1, 8, 10, 20, 38] {
+            assert_eq!(Why::from_number(number), None);
         }
     }
 

@@ -1,6 +1,6 @@
 //! The two tables and the steps on them.
 
-use crate::{pending, raw, Fields, Player, Refusal, Reply, Request, Step};
+use crate::{pending, raw, Fields, Player, Refusal, Reply, Report, Request, Step};
 
 /// The store's table and the players', which keep their rules: the state of the whole house.
 #[derive(Clone, Debug, PartialEq, Eq)]
@@ -14,6 +14,8 @@ impl Tables {
     pub const STORE_WORDS: usize = 1280;
     /// Words of the players' table.
     pub const PLAYERS_WORDS: usize = 9473;
+    /// The most records that a session holds: 16,380 bytes of three each.
+    pub const MOST_RECORDS: usize = 5460;
 
     /// Fresh tables.
     pub fn fresh() -> Tables {
@@ -70,6 +72,37 @@ impl Tables {
         Reply::of_step(reply)
     }
 
+    /// Takes the steps of a session's records, at most `budget` of them and at most as many as there are places for their replies: each
+    /// reply's numbers are put into its place, and places not filled keep what they had. A refused step is taken and replied to, and the
+    /// run goes on.
+    pub fn run(&mut self, session: &[u8], budget: u32, replies: &mut [[u32; 3]]) -> Report {
+        let Tables { store, players } = self;
+        let replies = replies.as_flattened_mut();
+        // SAFETY: four slices that do not overlap, each with its length.
+        let report = unsafe {
+            raw::famdrize_run(
+                store.as_mut_ptr(),
+                store.len(),
+                players.as_mut_ptr(),
+                players.len(),
+                session.as_ptr(),
+                session.len(),
+                budget,
+                replies.as_mut_ptr(),
+                replies.len(),
+            )
+        };
+        Report::of_run(report)
+    }
+
+    /// A run with a budget and places for any session; the replies to the records taken.
+    pub fn run_all(&mut self, session: &[u8]) -> (Report, Vec<Reply>) {
+        let mut numbers = vec![[0; 3]; Tables::MOST_RECORDS];
+        let report = self.run(session, u32::MAX, &mut numbers);
+        let taken = &numbers[..report.records as usize];
+        (report, taken.iter().map(|&n| Reply::from_numbers(n).expect("a step's reply")).collect())
+    }
+
     /// The last serial issued, 0 if none was.
     pub fn last_serial(&self) -> u32 {
         self.players[0]
@@ -95,7 +128,7 @@ impl Default for Tables {
 #[cfg(test)]
 mod tests {
     use super::*;
-    use crate::Range;
+    use crate::{Range, Session, Why};
 
     #[test]
     fn fresh_tables_have_their_words() {
@@ -154,5 +187,67 @@ mod tests {
         assert_eq!(requests[2..], [Request::default(); 62]);
         assert_eq!(tables.pending(one), 1);
         assert_eq!(tables.pending(two), 0);
+    }
+
+    /// A session of three steps: player 7 gets entry 9, reads it, and the read arrives.
+    fn session() -> Session {
+        let player = Player::new(7).unwrap();
+        let mut session = Session::new();
+        for step in [Step::Assign { player, range: Range::of_entry(9) }, Step::Read { player, entry: 9 }, Step::Deliver { serial: 2 }] {
+            session.push(step).unwrap();
+        }
+        session
+    }
+
+    #[test]
+    fn a_run_takes_the_steps_of_a_session() {
+        let mut stepped = Tables::fresh();
+        let player = Player::new(7).unwrap();
+        assert_eq!(stepped.step(Step::Assign { player, range: Range::of_entry(9) }), Reply::Issued { serial: 1 });
+        assert_eq!(stepped.step(Step::Read { player, entry: 9 }), Reply::Issued { serial: 2 });
+        assert_eq!(stepped.step(Step::Deliver { serial: 2 }), Reply::Done);
+        let mut tables = Tables::fresh();
+        let (report, replies) = tables.run_all(session().bytes());
+        assert_eq!(report, Report { why: Why::End, records: 3, place: 20 });
+        assert_eq!(replies, [Reply::Issued { serial: 1 }, Reply::Issued { serial: 2 }, Reply::Done]);
+        assert_eq!(tables, stepped);
+    }
+
+    #[test]
+    fn a_run_stops_with_its_budget_and_its_places() {
+        let mut tables = Tables::fresh();
+        let mut replies = [[5; 3]; 3];
+        assert_eq!(tables.run(session().bytes(), 1, &mut replies), Report { why: Why::Spent, records: 1, place: 10 });
+        assert_eq!(replies, [[1, 1, 0], [5; 3], [5; 3]]);
+        let mut tables = Tables::fresh();
+        assert_eq!(tables.run(session().bytes(), 9, &mut replies[..2]), Report { why: Why::Spent, records: 2, place: 14 });
+        assert_eq!(replies, [[1, 1, 0], [1, 2, 0], [5; 3]]);
+        let mut tables = Tables::fresh();
+        assert_eq!(tables.run(session().bytes(), 9, &mut []), Report { why: Why::Spent, records: 0, place: 4 });
+        assert_eq!(tables, Tables::fresh());
+    }
+
+    #[test]
+    fn a_refused_run_alters_nothing() {
+        let mut tables = Tables::fresh();
+        let mut replies = [[5; 3]; 3];
+        let refused = |refusal| Report { why: Why::Refused(refusal), records: 0, place: 0 };
+        assert_eq!(tables.run(&[], 9, &mut replies), refused(Refusal::NoMark));
+        assert_eq!(tables.run(&session().bytes()[1..], 9, &mut replies), refused(Refusal::NoMark));
+        let mut long = session().bytes().to_vec();
+        long.resize(16_385, 0);
+        assert_eq!(tables.run(&long, 9, &mut replies), refused(Refusal::SessionTooLong));
+        assert_eq!((tables, replies), (Tables::fresh(), [[5; 3]; 3]));
+    }
+
+    #[test]
+    fn a_refused_record_stops_the_run() {
+        let mut bytes = session().bytes().to_vec();
+        bytes.push(0x40);
+        let mut tables = Tables::fresh();
+        let (report, replies) = tables.run_all(&bytes);
+        assert_eq!(report, Report { why: Why::Refused(Refusal::UnknownField), records: 3, place: 20 });
+        assert_eq!(replies.len(), 3);
+        assert_eq!(tables.last_serial(), 2);
     }
 }
