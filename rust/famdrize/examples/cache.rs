@@ -1,33 +1,47 @@
-//! A player writes under its guard and reads from its memory, until a tablet restart takes the guard from the store. Prints each reply as
-//! a listing does; cache.txt is what it prints.
+//! A player writes under its guard and reads from its memory, until a tablet restart takes the
+//! guard from the store. Prints each reply as a listing does; cache.txt is what it prints.
 
 use famdrize::{Player, Range, Refusal, Reply, Session, Step, Tables, Why};
 
 fn main() {
-    let [zero, one] = [0, 1].map(|number| Player::new(number).expect("a player"));
+    let [player, other] = [0, 1].map(|number| Player::new(number).expect("a player"));
     let range = Range::new(40, 60).expect("a range");
     let entry = 45;
+
+    let ask = |player| Step::RequestGuard { player, range };
+    let read = Step::Read { player, entry };
+    let write = |value| Step::Write {
+        player,
+        entry,
+        value,
+    };
+    let deliver = |serial| Step::Deliver { serial };
+    let respond = |serial| Step::Respond { serial };
+    let issued = |serial| Reply::Issued { serial };
+    let (version, value) = (3, 7);
+
     let steps = [
-        (Step::Assign { player: zero, range }, Reply::Issued { serial: 1 }),
-        (Step::RequestGuard { player: zero, range }, Reply::Issued { serial: 2 }),
-        (Step::Deliver { serial: 2 }, Reply::Done),
-        (Step::Respond { serial: 2 }, Reply::Granted { serial: 2 }),
-        (Step::Write { player: zero, entry, value: 7 }, Reply::Issued { serial: 3 }),
-        (Step::Deliver { serial: 3 }, Reply::Done),
-        (Step::Respond { serial: 3 }, Reply::Committed { serial: 3, value: 7 }),
-        (Step::Read { player: zero, entry }, Reply::CacheRead { version: 3, value: 7 }),
-        // the store's guards become 0: what the player remembers stays right, and its next write is turned back
+        (Step::Assign { player, range }, issued(1)),
+        (ask(player), issued(2)),
+        (deliver(2), Reply::Done),
+        (respond(2), Reply::Granted { serial: 2 }),
+        (write(value), issued(version)),
+        (deliver(3), Reply::Done),
+        (respond(3), Reply::Committed { serial: 3, value }),
+        (read, Reply::CacheRead { version, value }),
+        // the store's guards become 0: what the player remembers stays right, and its next write
+        // is turned back
         (Step::RestartTablet { entry }, Reply::Done),
-        (Step::Read { player: zero, entry }, Reply::CacheRead { version: 3, value: 7 }),
-        (Step::Write { player: zero, entry, value: 8 }, Reply::Issued { serial: 4 }),
-        (Step::Deliver { serial: 4 }, Reply::Done),
-        (Step::Respond { serial: 4 }, Reply::Rejected { serial: 4 }),
+        (read, Reply::CacheRead { version, value }),
+        (write(8), issued(4)),
+        (deliver(4), Reply::Done),
+        (respond(4), Reply::Rejected { serial: 4 }),
         // that cleared the player's guard, so it reads from the store
-        (Step::Read { player: zero, entry }, Reply::Issued { serial: 5 }),
-        (Step::Deliver { serial: 5 }, Reply::Done),
-        (Step::Respond { serial: 5 }, Reply::StoreRead { version: 3, value: 7 }),
-        (Step::Write { player: zero, entry, value: 9 }, Reply::Refused(Refusal::NoLiveGuard)),
-        (Step::RequestGuard { player: one, range }, Reply::Refused(Refusal::NotOwner)),
+        (read, issued(5)),
+        (deliver(5), Reply::Done),
+        (respond(5), Reply::StoreRead { version, value }),
+        (write(9), Reply::Refused(Refusal::NoLiveGuard)),
+        (ask(other), Reply::Refused(Refusal::NotOwner)),
     ];
 
     // step by step, and written as a session
@@ -40,13 +54,14 @@ fn main() {
         let [code, a, b] = reply.numbers();
         println!("{number} {code} {a} {b}");
     }
-    assert_eq!(tables.pending(zero), 0);
+    assert_eq!(tables.pending(player), 0);
 
     // the session's run on fresh tables gives the same replies and tables
     let mut again = Tables::fresh();
     let (report, replies) = again.run_all(session.bytes());
     assert_eq!(report.why, Why::End);
-    assert!(replies.iter().zip(steps).all(|(reply, (_, expected))| *reply == expected));
+    assert_eq!(replies, steps.map(|(_, expected)| expected));
     assert_eq!(again, tables);
-    println!("end {} {} {}", report.why.number(), report.records, report.place);
+    let (records, place) = (report.records, report.place);
+    println!("end {} {records} {place}", report.why.number());
 }

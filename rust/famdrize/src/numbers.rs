@@ -44,7 +44,10 @@ impl Range {
 
     /// One entry.
     pub const fn of_entry(entry: u8) -> Range {
-        Range { low: entry, high: entry as u16 + 1 }
+        Range {
+            low: entry,
+            high: entry as u16 + 1,
+        }
     }
 
     /// All 256 entries.
@@ -93,7 +96,10 @@ mod tests {
         assert_eq!(Player::new(7).map(Player::number), Some(7));
         assert_eq!(Player::new(8), None);
         assert_eq!(Player::new(255), None);
-        assert_eq!(Player::all().map(Player::number).collect::<Vec<u8>>(), [0, 1, 2, 3, 4, 5, 6, 7]);
+        assert_eq!(
+            Player::all().map(Player::number).collect::<Vec<u8>>(),
+            [0, 1, 2, 3, 4, 5, 6, 7]
+        );
     }
 
     #[test]

@@ -59,8 +59,18 @@ pub struct Request {
 }
 
 extern "C" {
-    pub fn famdrize_fresh(store: *mut u32, store_words: usize, players: *mut u32, players_words: usize) -> Reply;
-    pub fn famdrize_check(store: *const u32, store_words: usize, players: *const u32, players_words: usize) -> Reply;
+    pub fn famdrize_fresh(
+        store: *mut u32,
+        store_words: usize,
+        players: *mut u32,
+        players_words: usize,
+    ) -> Reply;
+    pub fn famdrize_check(
+        store: *const u32,
+        store_words: usize,
+        players: *const u32,
+        players_words: usize,
+    ) -> Reply;
     pub fn famdrize_step(
         store: *mut u32,
         store_words: usize,
@@ -104,9 +114,22 @@ extern "C" {
     pub fn famdrize_store_fresh(store: *mut u32, store_words: usize) -> Reply;
     pub fn famdrize_store_check(store: *const u32, store_words: usize) -> Reply;
     pub fn famdrize_store_check_at(store: *const u32, store_words: usize, last: u32) -> Reply;
-    pub fn famdrize_store_set_guard(store: *mut u32, store_words: usize, low: u8, high: u16, serial: u32) -> Reply;
+    pub fn famdrize_store_set_guard(
+        store: *mut u32,
+        store_words: usize,
+        low: u8,
+        high: u16,
+        serial: u32,
+    ) -> Reply;
     pub fn famdrize_store_read(store: *const u32, store_words: usize, entry: u8) -> Reply;
-    pub fn famdrize_store_write(store: *mut u32, store_words: usize, entry: u8, value: u32, serial: u32, guard: u32) -> Reply;
+    pub fn famdrize_store_write(
+        store: *mut u32,
+        store_words: usize,
+        entry: u8,
+        value: u32,
+        serial: u32,
+        guard: u32,
+    ) -> Reply;
     pub fn famdrize_store_split(store: *mut u32, store_words: usize, entry: u8) -> Reply;
     pub fn famdrize_store_merge(store: *mut u32, store_words: usize, entry: u8) -> Reply;
     pub fn famdrize_store_restart(store: *mut u32, store_words: usize, entry: u8) -> Reply;

@@ -95,7 +95,8 @@ impl Reply {
 
     /// A step's reply, which has one of the codes above by the library's contract.
     pub(crate) fn of_step(r: raw::Reply) -> Reply {
-        Reply::from_numbers([r.code, r.a, r.b]).expect("a step's reply has code 0 to 8, or a refusal's")
+        Reply::from_numbers([r.code, r.a, r.b])
+            .expect("a step's reply has code 0 to 8, or a refusal's")
     }
 }
 
@@ -146,7 +147,11 @@ impl Report {
     /// A run's report, which has one of the reasons above by the library's contract.
     pub(crate) fn of_run(r: raw::Report) -> Report {
         let why = Why::from_number(r.why).expect("a run stops with 0, 9 or a refusal's number");
-        Report { why, records: r.records, place: r.place }
+        Report {
+            why,
+            records: r.records,
+            place: r.place,
+        }
     }
 }
 
@@ -282,9 +287,27 @@ mod tests {
         let replies = [
             (Reply::Done, [0, 0, 0]),
             (Reply::Issued { serial: 7 }, [1, 7, 0]),
-            (Reply::CacheRead { version: 3, value: 9 }, [2, 3, 9]),
-            (Reply::StoreRead { version: 3, value: 9 }, [3, 3, 9]),
-            (Reply::Committed { serial: 7, value: 9 }, [4, 7, 9]),
+            (
+                Reply::CacheRead {
+                    version: 3,
+                    value: 9,
+                },
+                [2, 3, 9],
+            ),
+            (
+                Reply::StoreRead {
+                    version: 3,
+                    value: 9,
+                },
+                [3, 3, 9],
+            ),
+            (
+                Reply::Committed {
+                    serial: 7,
+                    value: 9,
+                },
+                [4, 7, 9],
+            ),
             (Reply::Rejected { serial: 7 }, [5, 7, 0]),
             (Reply::Granted { serial: 7 }, [6, 7, 0]),
             (Reply::NotHeld { serial: 7 }, [7, 7, 0]),
@@ -295,14 +318,26 @@ mod tests {
             assert_eq!(reply.numbers(), numbers);
             assert_eq!(Reply::from_numbers(numbers), Some(reply));
         }
-        for numbers in [[0, 1, 0], [1, 7, 1], [9, 0, 0], [20, 0, 0], [32, 1, 0], [38, 0, 0]] {
+        for numbers in [
+            [0, 1, 0],
+            [1, 7, 1],
+            [9, 0, 0],
+            [20, 0, 0],
+            [32, 1, 0],
+            [38, 0, 0],
+        ] {
             assert_eq!(Reply::from_numbers(numbers), None);
         }
     }
 
     #[test]
     fn reasons_to_stop_and_their_numbers() {
-        for (why, number) in [(Why::End, 0), (Why::Spent, 9), (Why::Refused(Refusal::NoMark), 23), (Why::Refused(Refusal::CutShort), 24)] {
+        for (why, number) in [
+            (Why::End, 0),
+            (Why::Spent, 9),
+            (Why::Refused(Refusal::NoMark), 23),
+            (Why::Refused(Refusal::CutShort), 24),
+        ] {
             assert_eq!(why.number(), number);
             assert_eq!(Why::from_number(number), Some(why));
         }

@@ -7,7 +7,8 @@ pub use crate::raw::Request;
 impl Request {
     /// The request of a place of the players' table: 12 words of a table that keeps its rules, so each fits its field.
     pub(crate) fn from_words(words: &[u32]) -> Request {
-        let byte = |at: usize| u8::try_from(words[at]).expect("a word of a table that keeps its rules");
+        let byte =
+            |at: usize| u8::try_from(words[at]).expect("a word of a table that keeps its rules");
         Request {
             serial: words[0],
             player: byte(1),
@@ -28,7 +29,8 @@ impl Request {
 /// How many pending requests of the player stand in a list; 21 unless it has 64 places. Nothing else is tested.
 pub fn pending(requests: &[Request], player: Player) -> Result<u32, Refusal> {
     // SAFETY: a slice with its length, of a type laid out as the library's.
-    let reply = unsafe { raw::famdrize_waiting(requests.as_ptr(), requests.len(), player.number()) };
+    let reply =
+        unsafe { raw::famdrize_waiting(requests.as_ptr(), requests.len(), player.number()) };
     Refusal::of_code(reply.code)?;
     Ok(reply.a)
 }
@@ -62,12 +64,25 @@ mod tests {
     fn pending_ones_of_the_player_are_counted() {
         let mut list = [Request::default(); 64];
         for (i, place) in list.iter_mut().enumerate().take(9) {
-            *place = Request { serial: i as u32 + 1, player: (i % 3) as u8, kind: 4, abandoned: i == 3, ..Request::default() };
+            *place = Request {
+                serial: i as u32 + 1,
+                player: (i % 3) as u8,
+                kind: 4,
+                abandoned: i == 3,
+                ..Request::default()
+            };
         }
         let count = |n| pending(&list, Player::new(n).unwrap());
-        assert_eq!([count(0), count(1), count(2), count(3)], [Ok(2), Ok(3), Ok(3), Ok(0)]);
+        assert_eq!(
+            [count(0), count(1), count(2), count(3)],
+            [Ok(2), Ok(3), Ok(3), Ok(0)]
+        );
         // a place in use is told by its serial alone
-        list[63] = Request { serial: u32::MAX, player: 7, ..Request::default() };
+        list[63] = Request {
+            serial: u32::MAX,
+            player: 7,
+            ..Request::default()
+        };
         assert_eq!(pending(&list, Player::new(7).unwrap()), Ok(1));
     }
 
@@ -75,7 +90,10 @@ mod tests {
     fn a_list_of_another_length_is_refused() {
         let player = Player::new(0).unwrap();
         for places in [0, 1, 63, 65] {
-            assert_eq!(pending(&vec![Request::default(); places], player), Err(Refusal::TableLength));
+            assert_eq!(
+                pending(&vec![Request::default(); places], player),
+                Err(Refusal::TableLength)
+            );
         }
     }
 }

@@ -33,9 +33,27 @@ pub fn decode(part: &[u8]) -> Result<Record, Refusal> {
 /// Writes the record of a step, or of fields, to the start of the buffer, keeps what follows, and tells its length: 26 and 27 for fields
 /// that are no step's, 36 for a buffer that is shorter. A step that would be refused can be written.
 pub fn encode(step: impl Into<Fields>, out: &mut [u8]) -> Result<usize, Refusal> {
-    let Fields { kind, player, entry, high, value, serial } = step.into();
+    let Fields {
+        kind,
+        player,
+        entry,
+        high,
+        value,
+        serial,
+    } = step.into();
     // SAFETY: a slice with its length.
-    let reply = unsafe { raw::famdrize_encode(kind, player, entry, high, value, serial, out.as_mut_ptr(), out.len()) };
+    let reply = unsafe {
+        raw::famdrize_encode(
+            kind,
+            player,
+            entry,
+            high,
+            value,
+            serial,
+            out.as_mut_ptr(),
+            out.len(),
+        )
+    };
     Refusal::of_code(reply.code)?;
     Ok(reply.a as usize)
 }
@@ -102,7 +120,10 @@ mod tests {
     #[test]
     fn empty_slices_are_passed_with_length_0() {
         assert_eq!(decode(&[]), Err(Refusal::CutShort));
-        assert_eq!(encode(Step::Split { entry: 1 }, &mut []), Err(Refusal::BufferShort));
+        assert_eq!(
+            encode(Step::Split { entry: 1 }, &mut []),
+            Err(Refusal::BufferShort)
+        );
         assert_eq!(put_mark(&mut []), Err(Refusal::BufferShort));
         assert!(!is_marked(&[]));
         assert!(!is_marked(&Vec::new()));
@@ -135,11 +156,26 @@ mod tests {
         let player = Player::new(1).unwrap();
         let range = Range::new(40, 256).unwrap();
         [
-            (Step::Assign { player, range }, &[0x0F, 1, 1, 40, 0x00, 0x01]),
+            (
+                Step::Assign { player, range },
+                &[0x0F, 1, 1, 40, 0x00, 0x01],
+            ),
             (Step::Release { range }, &[0x0D, 2, 40, 0x00, 0x01]),
             (Step::Read { player, entry: 45 }, &[0x07, 4, 1, 45]),
-            (Step::Write { player, entry: 45, value: 0x0403_0201 }, &[0x17, 5, 1, 45, 1, 2, 3, 4]),
-            (Step::Respond { serial: 0x0403_0201 }, &[0x21, 7, 1, 2, 3, 4]),
+            (
+                Step::Write {
+                    player,
+                    entry: 45,
+                    value: 0x0403_0201,
+                },
+                &[0x17, 5, 1, 45, 1, 2, 3, 4],
+            ),
+            (
+                Step::Respond {
+                    serial: 0x0403_0201,
+                },
+                &[0x21, 7, 1, 2, 3, 4],
+            ),
             (Step::Merge { entry: 45 }, &[0x05, 11, 45]),
             (Step::RestartPlayer { player }, &[0x03, 13, 1]),
         ]
@@ -152,7 +188,13 @@ mod tests {
             assert_eq!(encode(step, &mut out), Ok(bytes.len()));
             assert_eq!(&out[..bytes.len()], bytes);
             assert!(out[bytes.len()..].iter().all(|&b| b == 0xEE));
-            assert_eq!(decode(&out), Ok(Record { fields: step.into(), length: bytes.len() }));
+            assert_eq!(
+                decode(&out),
+                Ok(Record {
+                    fields: step.into(),
+                    length: bytes.len()
+                })
+            );
             let mut short = vec![0xEE; bytes.len() - 1];
             assert_eq!(encode(step, &mut short), Err(Refusal::BufferShort));
             assert!(short.iter().all(|&b| b == 0xEE));
@@ -162,12 +204,27 @@ mod tests {
     #[test]
     fn fields_that_are_no_steps_are_not_written() {
         let mut out = [0xEE; 8];
-        let fields = Fields { kind: 10, entry: 45, ..Fields::default() };
-        assert_eq!(encode(Fields { kind: 14, ..fields }, &mut out), Err(Refusal::UnknownKind));
-        assert_eq!(encode(Fields { value: 1, ..fields }, &mut out), Err(Refusal::WrongFields));
+        let fields = Fields {
+            kind: 10,
+            entry: 45,
+            ..Fields::default()
+        };
+        assert_eq!(
+            encode(Fields { kind: 14, ..fields }, &mut out),
+            Err(Refusal::UnknownKind)
+        );
+        assert_eq!(
+            encode(Fields { value: 1, ..fields }, &mut out),
+            Err(Refusal::WrongFields)
+        );
         assert_eq!(out, [0xEE; 8]);
         // a player of 9 can be written and read, and is no step
-        let read = Fields { kind: 4, player: 9, entry: 45, ..Fields::default() };
+        let read = Fields {
+            kind: 4,
+            player: 9,
+            entry: 45,
+            ..Fields::default()
+        };
         assert_eq!(encode(read, &mut out), Ok(4));
         assert_eq!(decode(&out).map(|r| r.fields), Ok(read));
         assert_eq!(Step::try_from(read), Err(Refusal::OutOfRange));
@@ -179,7 +236,10 @@ mod tests {
         assert_eq!(session.bytes(), [0x52, 0x53, 0x4C, 0x31]);
         assert_eq!(session.push(Step::Split { entry: 128 }), Ok(()));
         assert_eq!(session.push(Step::Deliver { serial: 2 }), Ok(()));
-        assert_eq!(session.bytes(), [0x52, 0x53, 0x4C, 0x31, 0x05, 0x0A, 0x80, 0x21, 0x06, 2, 0, 0, 0]);
+        assert_eq!(
+            session.bytes(),
+            [0x52, 0x53, 0x4C, 0x31, 0x05, 0x0A, 0x80, 0x21, 0x06, 2, 0, 0, 0]
+        );
         assert!(is_marked(session.bytes()));
     }
 
@@ -190,7 +250,10 @@ mod tests {
             assert_eq!(session.push(Step::Split { entry: 1 }), Ok(()));
         }
         assert_eq!(session.bytes().len(), 16_384);
-        assert_eq!(session.push(Step::Split { entry: 1 }), Err(Refusal::SessionTooLong));
+        assert_eq!(
+            session.push(Step::Split { entry: 1 }),
+            Err(Refusal::SessionTooLong)
+        );
         assert_eq!(session.bytes().len(), 16_384);
     }
 }

@@ -102,21 +102,79 @@ pub struct Fields {
 impl From<Step> for Fields {
     fn from(step: Step) -> Fields {
         let none = Fields::default();
-        let ranged = |kind, range: Range| Fields { kind, entry: range.low(), high: range.high(), ..none };
+        let ranged = |kind, range: Range| Fields {
+            kind,
+            entry: range.low(),
+            high: range.high(),
+            ..none
+        };
         match step {
-            Step::Assign { player, range } => Fields { player: player.number(), ..ranged(1, range) },
+            Step::Assign { player, range } => Fields {
+                player: player.number(),
+                ..ranged(1, range)
+            },
             Step::Release { range } => ranged(2, range),
-            Step::RequestGuard { player, range } => Fields { player: player.number(), ..ranged(3, range) },
-            Step::Read { player, entry } => Fields { kind: 4, player: player.number(), entry, ..none },
-            Step::Write { player, entry, value } => Fields { kind: 5, player: player.number(), entry, value, ..none },
-            Step::Deliver { serial } => Fields { kind: 6, serial, ..none },
-            Step::Respond { serial } => Fields { kind: 7, serial, ..none },
-            Step::Abandon { serial } => Fields { kind: 8, serial, ..none },
-            Step::Lose { serial } => Fields { kind: 9, serial, ..none },
-            Step::Split { entry } => Fields { kind: 10, entry, ..none },
-            Step::Merge { entry } => Fields { kind: 11, entry, ..none },
-            Step::RestartTablet { entry } => Fields { kind: 12, entry, ..none },
-            Step::RestartPlayer { player } => Fields { kind: 13, player: player.number(), ..none },
+            Step::RequestGuard { player, range } => Fields {
+                player: player.number(),
+                ..ranged(3, range)
+            },
+            Step::Read { player, entry } => Fields {
+                kind: 4,
+                player: player.number(),
+                entry,
+                ..none
+            },
+            Step::Write {
+                player,
+                entry,
+                value,
+            } => Fields {
+                kind: 5,
+                player: player.number(),
+                entry,
+                value,
+                ..none
+            },
+            Step::Deliver { serial } => Fields {
+                kind: 6,
+                serial,
+                ..none
+            },
+            Step::Respond { serial } => Fields {
+                kind: 7,
+                serial,
+                ..none
+            },
+            Step::Abandon { serial } => Fields {
+                kind: 8,
+                serial,
+                ..none
+            },
+            Step::Lose { serial } => Fields {
+                kind: 9,
+                serial,
+                ..none
+            },
+            Step::Split { entry } => Fields {
+                kind: 10,
+                entry,
+                ..none
+            },
+            Step::Merge { entry } => Fields {
+                kind: 11,
+                entry,
+                ..none
+            },
+            Step::RestartTablet { entry } => Fields {
+                kind: 12,
+                entry,
+                ..none
+            },
+            Step::RestartPlayer { player } => Fields {
+                kind: 13,
+                player: player.number(),
+                ..none
+            },
         }
     }
 }
@@ -127,15 +185,51 @@ impl TryFrom<Fields> for Step {
     /// The step of these fields: 26 where the kind is not 1 to 13, 27 where a field that the kind lacks is not 0, 28 where the player is
     /// above 7, or the range is empty or goes past 256.
     fn try_from(fields: Fields) -> Result<Step, Refusal> {
-        let Fields { kind, entry, value, serial, .. } = fields;
+        let Fields {
+            kind,
+            entry,
+            value,
+            serial,
+            ..
+        } = fields;
         let lacks_none = match kind {
-            1 | 3 => Fields { value: 0, serial: 0, ..fields },
-            2 => Fields { player: 0, value: 0, serial: 0, ..fields },
-            4 => Fields { high: 0, value: 0, serial: 0, ..fields },
-            5 => Fields { high: 0, serial: 0, ..fields },
-            6..=9 => Fields { kind, serial, ..Fields::default() },
-            10..=12 => Fields { kind, entry, ..Fields::default() },
-            13 => Fields { kind, player: fields.player, ..Fields::default() },
+            1 | 3 => Fields {
+                value: 0,
+                serial: 0,
+                ..fields
+            },
+            2 => Fields {
+                player: 0,
+                value: 0,
+                serial: 0,
+                ..fields
+            },
+            4 => Fields {
+                high: 0,
+                value: 0,
+                serial: 0,
+                ..fields
+            },
+            5 => Fields {
+                high: 0,
+                serial: 0,
+                ..fields
+            },
+            6..=9 => Fields {
+                kind,
+                serial,
+                ..Fields::default()
+            },
+            10..=12 => Fields {
+                kind,
+                entry,
+                ..Fields::default()
+            },
+            13 => Fields {
+                kind,
+                player: fields.player,
+                ..Fields::default()
+            },
             _ => return Err(Refusal::UnknownKind),
         };
         if lacks_none != fields {
@@ -144,11 +238,21 @@ impl TryFrom<Fields> for Step {
         let player = Player::new(fields.player).ok_or(Refusal::OutOfRange)?;
         let range = || Range::new(entry, fields.high).ok_or(Refusal::OutOfRange);
         Ok(match kind {
-            1 => Step::Assign { player, range: range()? },
+            1 => Step::Assign {
+                player,
+                range: range()?,
+            },
             2 => Step::Release { range: range()? },
-            3 => Step::RequestGuard { player, range: range()? },
+            3 => Step::RequestGuard {
+                player,
+                range: range()?,
+            },
             4 => Step::Read { player, entry },
-            5 => Step::Write { player, entry, value },
+            5 => Step::Write {
+                player,
+                entry,
+                value,
+            },
             6 => Step::Deliver { serial },
             7 => Step::Respond { serial },
             8 => Step::Abandon { serial },
@@ -174,7 +278,14 @@ mod tests {
             (Step::Release { range }, [2, 0, 40, 256, 0, 0]),
             (Step::RequestGuard { player, range }, [3, 7, 40, 256, 0, 0]),
             (Step::Read { player, entry: 45 }, [4, 7, 45, 0, 0, 0]),
-            (Step::Write { player, entry: 45, value: 99 }, [5, 7, 45, 0, 99, 0]),
+            (
+                Step::Write {
+                    player,
+                    entry: 45,
+                    value: 99,
+                },
+                [5, 7, 45, 0, 99, 0],
+            ),
             (Step::Deliver { serial: 11 }, [6, 0, 0, 0, 0, 11]),
             (Step::Respond { serial: 11 }, [7, 0, 0, 0, 0, 11]),
             (Step::Abandon { serial: 11 }, [8, 0, 0, 0, 0, 11]),
@@ -208,13 +319,19 @@ mod tests {
     #[test]
     fn a_field_that_the_kind_lacks_is_refused() {
         // the fields of each kind, by the maps of docs/FORMATS.md
-        let maps = [0x0F, 0x0D, 0x0F, 0x07, 0x17, 0x21, 0x21, 0x21, 0x21, 0x05, 0x05, 0x05, 0x03];
+        let maps = [
+            0x0F, 0x0D, 0x0F, 0x07, 0x17, 0x21, 0x21, 0x21, 0x21, 0x05, 0x05, 0x05, 0x03,
+        ];
         for ((step, numbers), map) in samples().into_iter().zip(maps) {
             for bit in 1..6 {
                 let mut other = numbers;
                 other[bit] = 1;
                 let lacks = map >> bit & 1 == 0;
-                assert_eq!(Step::try_from(fields(other)) == Err(Refusal::WrongFields), lacks, "{step:?}, bit {bit}");
+                assert_eq!(
+                    Step::try_from(fields(other)) == Err(Refusal::WrongFields),
+                    lacks,
+                    "{step:?}, bit {bit}"
+                );
             }
         }
     }
@@ -222,11 +339,32 @@ mod tests {
     #[test]
     fn other_kinds_players_and_ranges_are_refused() {
         for kind in [0, 14, 255] {
-            assert_eq!(Step::try_from(Fields { kind, ..Fields::default() }), Err(Refusal::UnknownKind));
+            assert_eq!(
+                Step::try_from(Fields {
+                    kind,
+                    ..Fields::default()
+                }),
+                Err(Refusal::UnknownKind)
+            );
         }
         let assign = fields([1, 7, 40, 60, 0, 0]);
-        assert_eq!(Step::try_from(Fields { player: 8, ..assign }), Err(Refusal::OutOfRange));
-        assert_eq!(Step::try_from(Fields { high: 40, ..assign }), Err(Refusal::OutOfRange));
-        assert_eq!(Step::try_from(Fields { high: 257, ..assign }), Err(Refusal::OutOfRange));
+        assert_eq!(
+            Step::try_from(Fields {
+                player: 8,
+                ..assign
+            }),
+            Err(Refusal::OutOfRange)
+        );
+        assert_eq!(
+            Step::try_from(Fields { high: 40, ..assign }),
+            Err(Refusal::OutOfRange)
+        );
+        assert_eq!(
+            Step::try_from(Fields {
+                high: 257,
+                ..assign
+            }),
+            Err(Refusal::OutOfRange)
+        );
     }
 }

@@ -41,7 +41,9 @@ impl Store {
 
     /// A fresh store.
     pub fn fresh() -> Store {
-        let mut store = Store { words: vec![0; Store::WORDS] };
+        let mut store = Store {
+            words: vec![0; Store::WORDS],
+        };
         let reply = store.call(|words, length| unsafe { raw::famdrize_store_fresh(words, length) });
         assert_eq!(reply.code, 0, "a table of the right length is made fresh");
         store
@@ -63,15 +65,21 @@ impl Store {
     /// The entry's version and value.
     pub fn read(&self, entry: u8) -> Versioned {
         // SAFETY: a slice with its length.
-        let reply = unsafe { raw::famdrize_store_read(self.words.as_ptr(), self.words.len(), entry) };
+        let reply =
+            unsafe { raw::famdrize_store_read(self.words.as_ptr(), self.words.len(), entry) };
         assert_eq!(reply.code, 0, "a table that keeps its rules can be read");
-        Versioned { version: reply.a, value: reply.b }
+        Versioned {
+            version: reply.a,
+            value: reply.b,
+        }
     }
 
     /// Sets a guard, numbered by its serial, over a range that lies in one tablet.
     pub fn set_guard(&mut self, range: Range, serial: Serial) -> GuardOutcome {
         let (low, high) = (range.low(), range.high());
-        let reply = self.call(|words, length| unsafe { raw::famdrize_store_set_guard(words, length, low, high, serial.number()) });
+        let reply = self.call(|words, length| unsafe {
+            raw::famdrize_store_set_guard(words, length, low, high, serial.number())
+        });
         match (reply.code, reply.a) {
             (0, 1) => GuardOutcome::Set,
             (0, 2) => GuardOutcome::LayoutChanged,
@@ -81,7 +89,9 @@ impl Store {
 
     /// A write that carries a guard, which may be any number; 0 is the guard of no write that commits.
     pub fn write(&mut self, entry: u8, value: u32, serial: Serial, guard: u32) -> WriteOutcome {
-        let reply = self.call(|words, length| unsafe { raw::famdrize_store_write(words, length, entry, value, serial.number(), guard) });
+        let reply = self.call(|words, length| unsafe {
+            raw::famdrize_store_write(words, length, entry, value, serial.number(), guard)
+        });
         match (reply.code, reply.a) {
             (0, 1) => WriteOutcome::Committed,
             (0, 2) => WriteOutcome::Rejected,
@@ -91,18 +101,28 @@ impl Store {
 
     /// A tablet begins at the entry: 28 at entry 0, 35 where one does.
     pub fn split(&mut self, entry: u8) -> Result<(), Refusal> {
-        Refusal::of_code(self.call(|words, length| unsafe { raw::famdrize_store_split(words, length, entry) }).code)
+        Refusal::of_code(
+            self.call(|words, length| unsafe { raw::famdrize_store_split(words, length, entry) })
+                .code,
+        )
     }
 
     /// No tablet begins at the entry any more: 28 at entry 0, 35 where none does.
     pub fn merge(&mut self, entry: u8) -> Result<(), Refusal> {
-        Refusal::of_code(self.call(|words, length| unsafe { raw::famdrize_store_merge(words, length, entry) }).code)
+        Refusal::of_code(
+            self.call(|words, length| unsafe { raw::famdrize_store_merge(words, length, entry) })
+                .code,
+        )
     }
 
     /// The guards of the tablet that holds the entry become 0.
     pub fn restart(&mut self, entry: u8) {
-        let reply = self.call(|words, length| unsafe { raw::famdrize_store_restart(words, length, entry) });
-        assert_eq!(reply.code, 0, "a tablet of a table that keeps its rules restarts");
+        let reply =
+            self.call(|words, length| unsafe { raw::famdrize_store_restart(words, length, entry) });
+        assert_eq!(
+            reply.code, 0,
+            "a tablet of a table that keeps its rules restarts"
+        );
     }
 
     /// A call over the table. What it is handed is a slice's pointer and length, so an exported call of the store is sound there.
@@ -144,12 +164,27 @@ mod tests {
     fn a_write_commits_under_the_entrys_guard_alone() {
         let mut store = Store::fresh();
         assert_eq!(store.write(45, 7, serial(1), 0), WriteOutcome::Rejected);
-        assert_eq!(store.set_guard(Range::new(40, 60).unwrap(), serial(2)), GuardOutcome::Set);
+        assert_eq!(
+            store.set_guard(Range::new(40, 60).unwrap(), serial(2)),
+            GuardOutcome::Set
+        );
         assert_eq!(store.write(45, 7, serial(3), 2), WriteOutcome::Committed);
         assert_eq!(store.write(45, 8, serial(4), 1), WriteOutcome::Rejected);
         assert_eq!(store.write(60, 8, serial(5), 2), WriteOutcome::Rejected);
-        assert_eq!(store.read(45), Versioned { version: 3, value: 7 });
-        assert_eq!(store.read(60), Versioned { version: 0, value: 0 });
+        assert_eq!(
+            store.read(45),
+            Versioned {
+                version: 3,
+                value: 7
+            }
+        );
+        assert_eq!(
+            store.read(60),
+            Versioned {
+                version: 0,
+                value: 0
+            }
+        );
         store.restart(45);
         assert_eq!(store.write(45, 9, serial(6), 2), WriteOutcome::Rejected);
     }
@@ -160,10 +195,16 @@ mod tests {
         assert_eq!(store.split(128), Ok(()));
         assert_eq!(store.split(128), Err(Refusal::WrongBoundary));
         assert_eq!(store.split(0), Err(Refusal::OutOfRange));
-        assert_eq!(store.set_guard(Range::new(120, 130).unwrap(), serial(1)), GuardOutcome::LayoutChanged);
+        assert_eq!(
+            store.set_guard(Range::new(120, 130).unwrap(), serial(1)),
+            GuardOutcome::LayoutChanged
+        );
         assert_eq!(store.merge(128), Ok(()));
         assert_eq!(store.merge(128), Err(Refusal::WrongBoundary));
         assert_eq!(store.merge(0), Err(Refusal::OutOfRange));
-        assert_eq!(store.set_guard(Range::new(120, 130).unwrap(), serial(1)), GuardOutcome::Set);
+        assert_eq!(
+            store.set_guard(Range::new(120, 130).unwrap(), serial(1)),
+            GuardOutcome::Set
+        );
     }
 }

@@ -19,10 +19,20 @@ impl Tables {
 
     /// Fresh tables.
     pub fn fresh() -> Tables {
-        let mut tables = Tables { store: vec![0; Tables::STORE_WORDS], players: vec![0; Tables::PLAYERS_WORDS] };
+        let mut tables = Tables {
+            store: vec![0; Tables::STORE_WORDS],
+            players: vec![0; Tables::PLAYERS_WORDS],
+        };
         let Tables { store, players } = &mut tables;
         // SAFETY: two slices that do not overlap, each with its length.
-        let reply = unsafe { raw::famdrize_fresh(store.as_mut_ptr(), store.len(), players.as_mut_ptr(), players.len()) };
+        let reply = unsafe {
+            raw::famdrize_fresh(
+                store.as_mut_ptr(),
+                store.len(),
+                players.as_mut_ptr(),
+                players.len(),
+            )
+        };
         assert_eq!(reply.code, 0, "tables of the right lengths are made fresh");
         tables
     }
@@ -30,7 +40,9 @@ impl Tables {
     /// The tables of these words, which are tested: 21 for a wrong length, 22 for a rule that is broken.
     pub fn from_words(store: Vec<u32>, players: Vec<u32>) -> Result<Tables, Refusal> {
         // SAFETY: two slices, each with its length.
-        let reply = unsafe { raw::famdrize_check(store.as_ptr(), store.len(), players.as_ptr(), players.len()) };
+        let reply = unsafe {
+            raw::famdrize_check(store.as_ptr(), store.len(), players.as_ptr(), players.len())
+        };
         Refusal::of_code(reply.code)?;
         Ok(Tables { store, players })
     }
@@ -52,7 +64,14 @@ impl Tables {
 
     /// Takes the step of these fields, which may be refused with 26, 27 or 28.
     pub fn step_fields(&mut self, fields: Fields) -> Reply {
-        let Fields { kind, player, entry, high, value, serial } = fields;
+        let Fields {
+            kind,
+            player,
+            entry,
+            high,
+            value,
+            serial,
+        } = fields;
         let Tables { store, players } = self;
         // SAFETY: two slices that do not overlap, each with its length.
         let reply = unsafe {
@@ -100,7 +119,13 @@ impl Tables {
         let mut numbers = vec![[0; 3]; Tables::MOST_RECORDS];
         let report = self.run(session, u32::MAX, &mut numbers);
         let taken = &numbers[..report.records as usize];
-        (report, taken.iter().map(|&n| Reply::from_numbers(n).expect("a step's reply")).collect())
+        (
+            report,
+            taken
+                .iter()
+                .map(|&n| Reply::from_numbers(n).expect("a step's reply"))
+                .collect(),
+        )
     }
 
     /// The last serial issued, 0 if none was.
@@ -110,7 +135,10 @@ impl Tables {
 
     /// The 64 places for requests in flight, as records: those in use first, in rising serial.
     pub fn requests(&self) -> Vec<Request> {
-        self.players[8705..].chunks_exact(12).map(Request::from_words).collect()
+        self.players[8705..]
+            .chunks_exact(12)
+            .map(Request::from_words)
+            .collect()
     }
 
     /// How many pending requests the player has.
@@ -146,30 +174,77 @@ mod tests {
     fn other_tables_are_refused() {
         let fresh = Tables::fresh();
         let (store, players) = (fresh.store.clone(), fresh.players.clone());
-        assert_eq!(Tables::from_words(vec![], players.clone()), Err(Refusal::TableLength));
-        assert_eq!(Tables::from_words(store.clone(), vec![]), Err(Refusal::TableLength));
-        assert_eq!(Tables::from_words(store.clone(), vec![0; 9474]), Err(Refusal::TableLength));
+        assert_eq!(
+            Tables::from_words(vec![], players.clone()),
+            Err(Refusal::TableLength)
+        );
+        assert_eq!(
+            Tables::from_words(store.clone(), vec![]),
+            Err(Refusal::TableLength)
+        );
+        assert_eq!(
+            Tables::from_words(store.clone(), vec![0; 9474]),
+            Err(Refusal::TableLength)
+        );
         let mut owners = players.clone();
         owners[1] = 9;
-        assert_eq!(Tables::from_words(store.clone(), owners), Err(Refusal::TableRules));
+        assert_eq!(
+            Tables::from_words(store.clone(), owners),
+            Err(Refusal::TableRules)
+        );
         let mut boundaries = store;
         boundaries[0] = 0;
-        assert_eq!(Tables::from_words(boundaries, players), Err(Refusal::TableRules));
+        assert_eq!(
+            Tables::from_words(boundaries, players),
+            Err(Refusal::TableRules)
+        );
     }
 
     #[test]
     fn steps_change_the_tables_and_refusals_do_not() {
         let mut tables = Tables::fresh();
         let player = Player::new(7).unwrap();
-        assert_eq!(tables.step(Step::Assign { player, range: Range::all() }), Reply::Issued { serial: 1 });
+        assert_eq!(
+            tables.step(Step::Assign {
+                player,
+                range: Range::all()
+            }),
+            Reply::Issued { serial: 1 }
+        );
         assert_eq!(tables.last_serial(), 1);
         assert_eq!(tables.players_words()[1..257], [7; 256]);
         let before = tables.clone();
-        assert_eq!(tables.step(Step::Deliver { serial: 1 }), Reply::Refused(Refusal::NoSuchRequest));
-        assert_eq!(tables.step(Step::Split { entry: 0 }), Reply::Refused(Refusal::OutOfRange));
-        assert_eq!(tables.step_fields(Fields { kind: 14, ..Fields::default() }), Reply::Refused(Refusal::UnknownKind));
-        assert_eq!(tables.step_fields(Fields { kind: 13, serial: 1, ..Fields::default() }), Reply::Refused(Refusal::WrongFields));
-        assert_eq!(tables.step_fields(Fields { kind: 13, player: 8, ..Fields::default() }), Reply::Refused(Refusal::OutOfRange));
+        assert_eq!(
+            tables.step(Step::Deliver { serial: 1 }),
+            Reply::Refused(Refusal::NoSuchRequest)
+        );
+        assert_eq!(
+            tables.step(Step::Split { entry: 0 }),
+            Reply::Refused(Refusal::OutOfRange)
+        );
+        assert_eq!(
+            tables.step_fields(Fields {
+                kind: 14,
+                ..Fields::default()
+            }),
+            Reply::Refused(Refusal::UnknownKind)
+        );
+        assert_eq!(
+            tables.step_fields(Fields {
+                kind: 13,
+                serial: 1,
+                ..Fields::default()
+            }),
+            Reply::Refused(Refusal::WrongFields)
+        );
+        assert_eq!(
+            tables.step_fields(Fields {
+                kind: 13,
+                player: 8,
+                ..Fields::default()
+            }),
+            Reply::Refused(Refusal::OutOfRange)
+        );
         assert_eq!(tables, before);
     }
 
@@ -177,13 +252,44 @@ mod tests {
     fn requests_are_offered_as_records() {
         let mut tables = Tables::fresh();
         let [one, two] = [1, 2].map(|n| Player::new(n).unwrap());
-        assert_eq!(tables.step(Step::Read { player: one, entry: 9 }), Reply::Issued { serial: 1 });
-        assert_eq!(tables.step(Step::Read { player: one, entry: 10 }), Reply::Issued { serial: 2 });
+        assert_eq!(
+            tables.step(Step::Read {
+                player: one,
+                entry: 9
+            }),
+            Reply::Issued { serial: 1 }
+        );
+        assert_eq!(
+            tables.step(Step::Read {
+                player: one,
+                entry: 10
+            }),
+            Reply::Issued { serial: 2 }
+        );
         assert_eq!(tables.step(Step::Abandon { serial: 1 }), Reply::Done);
         let requests = tables.requests();
         assert_eq!(requests.len(), 64);
-        assert_eq!(requests[0], Request { serial: 1, player: 1, kind: 4, low: 9, abandoned: true, ..Request::default() });
-        assert_eq!(requests[1], Request { serial: 2, player: 1, kind: 4, low: 10, ..Request::default() });
+        assert_eq!(
+            requests[0],
+            Request {
+                serial: 1,
+                player: 1,
+                kind: 4,
+                low: 9,
+                abandoned: true,
+                ..Request::default()
+            }
+        );
+        assert_eq!(
+            requests[1],
+            Request {
+                serial: 2,
+                player: 1,
+                kind: 4,
+                low: 10,
+                ..Request::default()
+            }
+        );
         assert_eq!(requests[2..], [Request::default(); 62]);
         assert_eq!(tables.pending(one), 1);
         assert_eq!(tables.pending(two), 0);
@@ -193,7 +299,14 @@ mod tests {
     fn session() -> Session {
         let player = Player::new(7).unwrap();
         let mut session = Session::new();
-        for step in [Step::Assign { player, range: Range::of_entry(9) }, Step::Read { player, entry: 9 }, Step::Deliver { serial: 2 }] {
+        for step in [
+            Step::Assign {
+                player,
+                range: Range::of_entry(9),
+            },
+            Step::Read { player, entry: 9 },
+            Step::Deliver { serial: 2 },
+        ] {
             session.push(step).unwrap();
         }
         session
@@ -203,13 +316,36 @@ mod tests {
     fn a_run_takes_the_steps_of_a_session() {
         let mut stepped = Tables::fresh();
         let player = Player::new(7).unwrap();
-        assert_eq!(stepped.step(Step::Assign { player, range: Range::of_entry(9) }), Reply::Issued { serial: 1 });
-        assert_eq!(stepped.step(Step::Read { player, entry: 9 }), Reply::Issued { serial: 2 });
+        assert_eq!(
+            stepped.step(Step::Assign {
+                player,
+                range: Range::of_entry(9)
+            }),
+            Reply::Issued { serial: 1 }
+        );
+        assert_eq!(
+            stepped.step(Step::Read { player, entry: 9 }),
+            Reply::Issued { serial: 2 }
+        );
         assert_eq!(stepped.step(Step::Deliver { serial: 2 }), Reply::Done);
         let mut tables = Tables::fresh();
         let (report, replies) = tables.run_all(session().bytes());
-        assert_eq!(report, Report { why: Why::End, records: 3, place: 20 });
-        assert_eq!(replies, [Reply::Issued { serial: 1 }, Reply::Issued { serial: 2 }, Reply::Done]);
+        assert_eq!(
+            report,
+            Report {
+                why: Why::End,
+                records: 3,
+                place: 20
+            }
+        );
+        assert_eq!(
+            replies,
+            [
+                Reply::Issued { serial: 1 },
+                Reply::Issued { serial: 2 },
+                Reply::Done
+            ]
+        );
         assert_eq!(tables, stepped);
     }
 
@@ -217,13 +353,34 @@ mod tests {
     fn a_run_stops_with_its_budget_and_its_places() {
         let mut tables = Tables::fresh();
         let mut replies = [[5; 3]; 3];
-        assert_eq!(tables.run(session().bytes(), 1, &mut replies), Report { why: Why::Spent, records: 1, place: 10 });
+        assert_eq!(
+            tables.run(session().bytes(), 1, &mut replies),
+            Report {
+                why: Why::Spent,
+                records: 1,
+                place: 10
+            }
+        );
         assert_eq!(replies, [[1, 1, 0], [5; 3], [5; 3]]);
         let mut tables = Tables::fresh();
-        assert_eq!(tables.run(session().bytes(), 9, &mut replies[..2]), Report { why: Why::Spent, records: 2, place: 14 });
+        assert_eq!(
+            tables.run(session().bytes(), 9, &mut replies[..2]),
+            Report {
+                why: Why::Spent,
+                records: 2,
+                place: 14
+            }
+        );
         assert_eq!(replies, [[1, 1, 0], [1, 2, 0], [5; 3]]);
         let mut tables = Tables::fresh();
-        assert_eq!(tables.run(session().bytes(), 9, &mut []), Report { why: Why::Spent, records: 0, place: 4 });
+        assert_eq!(
+            tables.run(session().bytes(), 9, &mut []),
+            Report {
+                why: Why::Spent,
+                records: 0,
+                place: 4
+            }
+        );
         assert_eq!(tables, Tables::fresh());
     }
 
@@ -231,12 +388,22 @@ mod tests {
     fn a_refused_run_alters_nothing() {
         let mut tables = Tables::fresh();
         let mut replies = [[5; 3]; 3];
-        let refused = |refusal| Report { why: Why::Refused(refusal), records: 0, place: 0 };
+        let refused = |refusal| Report {
+            why: Why::Refused(refusal),
+            records: 0,
+            place: 0,
+        };
         assert_eq!(tables.run(&[], 9, &mut replies), refused(Refusal::NoMark));
-        assert_eq!(tables.run(&session().bytes()[1..], 9, &mut replies), refused(Refusal::NoMark));
+        assert_eq!(
+            tables.run(&session().bytes()[1..], 9, &mut replies),
+            refused(Refusal::NoMark)
+        );
         let mut long = session().bytes().to_vec();
         long.resize(16_385, 0);
-        assert_eq!(tables.run(&long, 9, &mut replies), refused(Refusal::SessionTooLong));
+        assert_eq!(
+            tables.run(&long, 9, &mut replies),
+            refused(Refusal::SessionTooLong)
+        );
         assert_eq!((tables, replies), (Tables::fresh(), [[5; 3]; 3]));
     }
 
@@ -246,7 +413,14 @@ mod tests {
         bytes.push(0x40);
         let mut tables = Tables::fresh();
         let (report, replies) = tables.run_all(&bytes);
-        assert_eq!(report, Report { why: Why::Refused(Refusal::UnknownField), records: 3, place: 20 });
+        assert_eq!(
+            report,
+            Report {
+                why: Why::Refused(Refusal::UnknownField),
+                records: 3,
+                place: 20
+            }
+        );
         assert_eq!(replies.len(), 3);
         assert_eq!(tables.last_serial(), 2);
     }
