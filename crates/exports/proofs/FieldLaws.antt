@@ -3,7 +3,7 @@
 use mathlib.Core.Path.{_≡_, _∙_, refl, ap}
 use mathlib.Core.Bool.{Bool, true, false, cond, _&&_, _||_}
 use mathlib.Core.List.{List, [], _∷_}
-use Prim.Native.Nat.{ℕ, zero, suc, _/_, _≤_, _<_}
+use Prim.Native.Nat.{ℕ, _/_, _≤_, _<_}
 use native.Mathlib.Omega.{arith}
 use lib.ListN.{length, getD, drop}
 use lib.Dec.{ltb, eqb}
@@ -12,7 +12,7 @@ use Rattle.players.specs.declared.Step.{Step}
 use Rattle.players.specs.declared.Step.the-variants.{Assign, Release, RequestGuard, Read, Write, Deliver, Respond, Abandon, Lose, Split, Merge, RestartTablet, RestartPlayer}
 use Rattle.session.specs.Layout.{stands, map-of}
 use Rattle.session.specs.Records.{kind-and-fields, kind, step-of}
-use Rattle.session.proofs.StepLaws.{Each, none, _&_, each-kind}
+use Rattle.session.proofs.StepLaws.{none, _&_, each-kind}
 use Rattle.exports.specs.declared.Stated.{Stated}
 use Rattle.exports.specs.declared.Stated.the-variants.{Taken, Refused}
 use Rattle.exports.specs.Fields.{standing, others-zero, spread, agree, six, numbers-of, stated, on-stated}

@@ -2,7 +2,6 @@
 -- Assumes nothing.
 use mathlib.Core.List.{List, [], _∷_}
 use Prim.Native.Nat.{ℕ}
-use Rattle.store.specs.declared.Range.{Range}
 use Rattle.store.specs.declared.Reply.{Reply}
 use Rattle.players.specs.Replies.{reply, refusal}
 use Rattle.players.specs.Calls.{Done, left}
@@ -42,7 +41,3 @@ decoded (Refused n) = n ∷ 0 ∷ 0 ∷ 0 ∷ 0 ∷ 0 ∷ 0 ∷ 0 ∷ []
 -- the record of the step of these numbers written to a buffer, or refused before it is looked at
 abbrev pub recorded : List ℕ → List ℕ → Wrote
 recorded vs out = on-stated (stated vs) (λ x. written (encode x) out) (λ n. wrote (refusal n) out)
-
--- the entries from low up to high
-abbrev pub range : ℕ → ℕ → Range
-range low high = record { low = low; high = high }

@@ -4,7 +4,8 @@ use crate::given;
 use store::Range;
 ghost use mathlib.Core.Path.{_≡_};
 ghost use Rattle.store.specs.Calls.{done, checked, called, made-fresh, set-guard, read, write, split, merge, restart};
-ghost use Rattle.exports.specs.Calls.{reply-of, range};
+ghost use Rattle.players.specs.Cases.{range};
+ghost use Rattle.exports.specs.Calls.{reply-of};
 
 // Makes the table fresh.
 #[no_mangle]
