@@ -8,7 +8,7 @@ fn main() {
     let range = Range::new(40, 60).expect("a range");
     let entry = 45;
 
-    let ask = |player| Step::RequestGuard { player, range };
+    let request_guard = |player| Step::RequestGuard { player, range };
     let read = Step::Read { player, entry };
     let write = |value| Step::Write {
         player,
@@ -22,7 +22,7 @@ fn main() {
 
     let steps = [
         (Step::Assign { player, range }, issued(1)),
-        (ask(player), issued(2)),
+        (request_guard(player), issued(2)),
         (deliver(2), Reply::Done),
         (respond(2), Reply::Granted { serial: 2 }),
         (write(value), issued(version)),
@@ -41,7 +41,7 @@ fn main() {
         (deliver(5), Reply::Done),
         (respond(5), Reply::StoreRead { version, value }),
         (write(9), Reply::Refused(Refusal::NoLiveGuard)),
-        (ask(other), Reply::Refused(Refusal::NotOwner)),
+        (request_guard(other), Reply::Refused(Refusal::NotOwner)),
     ];
 
     // step by step, and written as a session

@@ -2,7 +2,7 @@
 
 use crate::{pending, raw, Fields, Player, Refusal, Reply, Report, Request, Step};
 
-/// The store's table and the players', which keep their rules: the state of the whole house.
+/// The store's table and the players', which keep their rules: the whole state.
 #[derive(Clone, Debug, PartialEq, Eq)]
 pub struct Tables {
     store: Vec<u32>,
