@@ -13,7 +13,7 @@ use lib.Seq.{drop-cons, getD-take, getD-drop, length-take-le}
 use borrow.Author.Tests.{eq-eqb, ne-eqb, le-leb, lt-leb, eqb-true}
 use Rattle.store.specs.Model.{fresh as fresh-store}
 use Rattle.store.specs.Table.{at-most, tableOf as store-table, valid as valid-store}
-use Rattle.store.specs.Calls.{said, checked as checked-store, done as stored-as, Done as StoreDone, made-fresh as store-made}
+use Rattle.store.specs.Calls.{reply, checked as checked-store, done as stored-as, Done as StoreDone, made-fresh as store-made}
 use Rattle.store.specs.declared.Reply.{Reply}
 use Rattle.requests.specs.Region.{valid as valid-requests}
 use Rattle.requests.proofs.Basics.{decide, both-left, both-right, cond-elim}
@@ -146,7 +146,7 @@ module _ (st t : List ℕ) (w : whole st t ≡ true) where
     tested : r .code ≡ cond (valid-store (getD t 0 0) st) 0 22
     tested =
         ap (λ (x : Reply). x .code) e
-        ∙ rw (eq-eqb (length st) 1280 store-long) (cond-elim (λ (x : Reply). x .code ≡ cond (valid-store (getD t 0 0) st) 0 22) (valid-store (getD t 0 0) st) (said 0 0 0) (said 22 0 0) (λ b. rw b) (λ b. rw b))
+        ∙ rw (eq-eqb (length st) 1280 store-long) (cond-elim (λ (x : Reply). x .code ≡ cond (valid-store (getD t 0 0) st) 0 22) (valid-store (getD t 0 0) st) (reply 0 0 0) (reply 22 0 0) (λ b. rw b) (λ b. rw b))
 
     stored-not : (r .code ≡ 0 → ⊥) → valid-store (getD t 0 0) st ≡ false
     stored-not z = ⊎-elim (λ b. absurd (z (tested ∙ ap (λ (x : Bool). cond x 0 22) b))) (λ b. b) (decide (valid-store (getD t 0 0) st))
@@ -170,7 +170,7 @@ module _ (st t : List ℕ) (w : whole st t ≡ true) where
   -- the store made fresh, and the players
   pub fresh-both : (r : Reply) (st′ t′ : List ℕ) → stored-as r st′ ≡ store-made st → t′ ≡ tableOf fresh → left r st′ t′ ≡ made-fresh st t
   fresh-both r st′ t′ e f =
-      let x : stored-as r st′ ≡ stored-as (said 0 0 0) (store-table fresh-store) = e ∙ rw (eq-eqb (length st) 1280 store-long) in
+      let x : stored-as r st′ ≡ stored-as (reply 0 0 0) (store-table fresh-store) = e ∙ rw (eq-eqb (length st) 1280 store-long) in
       rw (w, ap (λ (d : StoreDone). d .reply) x, ap (λ (d : StoreDone). d .table) x, f)
 
 module _ (st t : List ℕ) (w : whole st t ≡ false) (r : Reply) (e : r ≡ refusal 21) where

@@ -8,7 +8,7 @@ use Prim.Native.Nat.{ℕ, _+_, _≤_, _<_}
 use native.Mathlib.Omega.{arith}
 use lib.ListN.{length}
 use borrow.Author.Tests.{eq-eqb, ne-eqb, lt-ltb, le-ltb}
-use Rattle.store.specs.Calls.{said}
+use Rattle.store.specs.Calls.{reply}
 use Rattle.requests.specs.declared.Request.{Request}
 use Rattle.requests.specs.Model.{by, pending, keep}
 use Rattle.requests.specs.Lent.{counts, one-more, counted, answer, waiting}
@@ -45,15 +45,15 @@ module _ (r : Request) (p : ℕ) where
 -- ---- the reply
 
 module _ (m p n : ℕ) where
-  pub wrong-places : (m ≡ 64 → ⊥) → said 21 0 0 ≡ answer m p n
+  pub wrong-places : (m ≡ 64 → ⊥) → reply 21 0 0 ≡ answer m p n
   unfolding answer
   wrong-places h = rw (ne-eqb m 64 h)
 
-  pub no-player : m ≡ 64 → 7 < p → said 28 0 0 ≡ answer m p n
+  pub no-player : m ≡ 64 → 7 < p → reply 28 0 0 ≡ answer m p n
   unfolding answer
   no-player h k = rw (eq-eqb m 64 h, lt-ltb 7 p k)
 
-  pub count-given : m ≡ 64 → p ≤ 7 → said 0 n 0 ≡ answer m p n
+  pub count-given : m ≡ 64 → p ≤ 7 → reply 0 n 0 ≡ answer m p n
   unfolding answer
   count-given h k = rw (eq-eqb m 64 h, le-ltb 7 p k)
 
@@ -98,8 +98,8 @@ counted-used p n (r ∷ rs) us (one-used s k) u h =
     (decide (by p r && pending r))
 
 -- a list of 64 places that holds the requests rs: the reply has the number of the player's pending ones
-pub waiting-counts : (p : ℕ) (rs us : List Request) → p ≤ 7 → length (rs ++ us) ≡ 64 → length rs ≤ 64 → Used rs → Unused us → waiting p (rs ++ us) ≡ said 0 (length (mine p rs)) 0
+pub waiting-counts : (p : ℕ) (rs us : List Request) → p ≤ 7 → length (rs ++ us) ≡ 64 → length rs ≤ 64 → Used rs → Unused us → waiting p (rs ++ us) ≡ reply 0 (length (mine p rs)) 0
 unfolding waiting
 waiting-counts p rs us h l f k u =
     sym (count-given (length (rs ++ us)) p (counted p 0 (rs ++ us)) l h)
-    ∙ ap (λ (n : ℕ). said 0 n 0) (counted-used p 0 rs us k u (omega arith) ∙ omega arith)
+    ∙ ap (λ (n : ℕ). reply 0 n 0) (counted-used p 0 rs us k u (omega arith) ∙ omega arith)

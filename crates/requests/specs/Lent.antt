@@ -6,7 +6,7 @@ use mathlib.Core.List.{List, [], _∷_}
 use Prim.Native.Nat.{ℕ, _+_}
 use lib.Dec.{ltb, eqb}
 use lib.ListN.{length}
-use Rattle.store.specs.Calls.{said}
+use Rattle.store.specs.Calls.{reply}
 use Rattle.store.specs.declared.Reply.{Reply}
 use Rattle.requests.specs.declared.Request.{Request}
 use Rattle.requests.specs.Model.{places, by, pending}
@@ -26,7 +26,7 @@ counted p n (r ∷ rs) = counted p (one-more p n r) rs
 
 -- the reply for a list of so many places
 unfoldable pub answer : ℕ → ℕ → ℕ → Reply
-answer m p n = cond (eqb m places) (cond (ltb 7 p) (said 28 0 0) (said 0 n 0)) (said 21 0 0)
+answer m p n = cond (eqb m places) (cond (ltb 7 p) (reply 28 0 0) (reply 0 n 0)) (reply 21 0 0)
 
 -- the reply for a list
 unfoldable pub waiting : ℕ → List Request → Reply

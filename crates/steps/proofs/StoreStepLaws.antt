@@ -11,7 +11,7 @@ use borrow.Rule.Slice.PartMut.{putMid}
 use Rattle.store.specs.declared.Reply.{Reply}
 use Rattle.store.specs.Model.{Store, bad-range, one-tablet, guarded, commits, committed}
 use Rattle.store.specs.Table.{storeOf, tableOf as store-table}
-use Rattle.store.specs.Calls.{Result as StoreResult, Done as StoreDone, Steps as StoreSteps, encoded as store-encoded, said, result, refusal as refused-store, outcome, install, read, commit, split, merge, restart}
+use Rattle.store.specs.Calls.{Result as StoreResult, Done as StoreDone, Steps as StoreSteps, encoded as store-encoded, reply, result, refusal as refused-store, outcome, install, read, commit, split, merge, restart}
 use Rattle.requests.specs.declared.Request.{Request}
 use Rattle.requests.specs.declared.Found.the-variants.{At, Nowhere}
 use Rattle.requests.specs.Model.{is-guard-request, is-read, drop-request, change-request, mark-delivered}
@@ -119,7 +119,7 @@ module _ (s : State) (r : Request) where
       → cond k (cond o (settled s r x 1 0) (settled s r (s .store) 2 0)) (cond l (settled s r (s .store) v w) (cond c (settled s r y 1 0) (settled s r (s .store) 2 0)))
       ≡ by-outcome
       (cond k (cond b (refused-store 28 (s .store)) (cond o (outcome 1 x) (outcome 2 (s .store))))
-      (cond l (result (said 0 v w) (s .store)) (cond c (outcome 1 y) (outcome 2 (s .store)))))
+      (cond l (result (reply 0 v w) (s .store)) (cond c (outcome 1 y) (outcome 2 (s .store)))))
   deliver-cases true true o l c x y v w h = absurd (true≢false (h refl))
   deliver-cases true false true l c x y v w h = refl
   deliver-cases true false false l c x y v w h = refl

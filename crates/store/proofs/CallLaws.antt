@@ -14,7 +14,7 @@ use borrow.Author.Tests.{eq-eqb, ne-eqb, le-leb, lt-leb, lt-ltb, le-ltb, eqb-tru
 use Rattle.store.specs.Model.{Store, serials, put, unbroken, tablet-first, tablet-end, guarded, committed, with-boundary}
 use Rattle.store.specs.Table.{part, seek, guardAt, storeOf, listed, tableOf, valid}
 use Rattle.store.specs.Walk.{rebuilt}
-use Rattle.store.specs.Calls.{said, Result, result, refusal, bad-serial, Done, done, encoded, checked, called, Steps, install, read, commit, split, merge, restart}
+use Rattle.store.specs.Calls.{reply, Result, result, refusal, bad-serial, Done, done, encoded, checked, called, Steps, install, read, commit, split, merge, restart}
 use Rattle.store.specs.declared.Reply.{Reply}
 use Rattle.store.specs.declared.Range.{Range}
 use Rattle.store.proofs.Bools.{decide}
@@ -25,7 +25,7 @@ use Rattle.store.proofs.Rebuilt.{rebuilt-table}
 
 -- ---- the three ways a call ends
 
-pub wrong-length : (f : Store → Result) (t : List ℕ) → (length t ≡ 1280 → ⊥) → Steps f t (said 21 0 0) t
+pub wrong-length : (f : Store → Result) (t : List ℕ) → (length t ≡ 1280 → ⊥) → Steps f t (reply 21 0 0) t
 wrong-length f t h = record { wrong = λ _. refl; right = λ n w v. absurd (h w) }
 
 module _ (f : Store → Result) (t : List ℕ) (r : Reply) (w : length t ≡ 1280) where
@@ -94,24 +94,24 @@ module _ (t : List ℕ) (w : length t ≡ 1280) where
   bounds e = getD (take 256 t) e 0
 
   module _ (r : Range) (g : ℕ) where
-    pub install-empty : r .high ≤ r .low → Steps (install r g) t (said 28 0 0) t
+    pub install-empty : r .high ≤ r .low → Steps (install r g) t (reply 28 0 0) t
     install-empty h = kept (install r g) t _ w (rw (le-ltb (r .low) (r .high) h))
 
-    pub install-long : r .low < r .high → 256 < r .high → Steps (install r g) t (said 28 0 0) t
+    pub install-long : r .low < r .high → 256 < r .high → Steps (install r g) t (reply 28 0 0) t
     install-long h k = kept (install r g) t _ w (rw (lt-ltb (r .low) (r .high) h, lt-leb (r .high) 256 k))
 
-    pub install-across : r .low < r .high → r .high ≤ 256 → unbroken bounds (r .low + 1) (r .high - (r .low + 1)) ≡ false → Steps (install r g) t (said 0 2 0) t
+    pub install-across : r .low < r .high → r .high ≤ 256 → unbroken bounds (r .low + 1) (r .high - (r .low + 1)) ≡ false → Steps (install r g) t (reply 0 2 0) t
     unfolding storeOf part
     install-across h k u = kept (install r g) t _ w (rw (lt-ltb (r .low) (r .high) h, le-leb (r .high) 256 k, u))
 
-    pub install-set : r .low < r .high → r .high ≤ 256 → unbroken bounds (r .low + 1) (r .high - (r .low + 1)) ≡ true → Steps (install r g) t (said 0 1 0) (rebuilt t (r .low) (r .high) g)
+    pub install-set : r .low < r .high → r .high ≤ 256 → unbroken bounds (r .low + 1) (r .high - (r .low + 1)) ≡ true → Steps (install r g) t (reply 0 1 0) (rebuilt t (r .low) (r .high) g)
     unfolding storeOf part
     install-set h k u =
         changed (install r g) t _ w _ (guarded (storeOf t) (r .low) (r .high) g) (rw (lt-ltb (r .low) (r .high) h, le-leb (r .high) 256 k, u))
         (λ n v. rebuilt-table t (r .low) (r .high) g w (omega arith) k n v)
 
   module _ (e : ℕ) (h : e < 256) where
-    pub read-is : Steps (read e) t (said 0 (getD t (768 + e) 0) (getD t (1024 + e) 0)) t
+    pub read-is : Steps (read e) t (reply 0 (getD t (768 + e) 0) (getD t (1024 + e) 0)) t
     unfolding storeOf
     read-is = kept (read e) t _ w (rw (part-at 768 t e h, part-at 1024 t e h))
 
@@ -124,13 +124,13 @@ module _ (t : List ℕ) (w : length t ≡ 1280) where
     found-is = rw (lt-ltb e 256 h)
 
     module _ (v s g : ℕ) where
-      pub commit-zero : g ≡ 0 → Steps (commit e v s g) t (said 0 2 0) t
+      pub commit-zero : g ≡ 0 → Steps (commit e v s g) t (reply 0 2 0) t
       commit-zero z = kept (commit e v s g) t _ w (rw (eq-eqb g 0 z))
 
-      pub commit-other : (g ≡ 0 → ⊥) → (found ≡ g → ⊥) → Steps (commit e v s g) t (said 0 2 0) t
+      pub commit-other : (g ≡ 0 → ⊥) → (found ≡ g → ⊥) → Steps (commit e v s g) t (reply 0 2 0) t
       commit-other z x = kept (commit e v s g) t _ w (rw (found-is, ne-eqb g 0 z, ne-eqb g found (λ y. x (sym y))))
 
-      pub commit-same : (g ≡ 0 → ⊥) → found ≡ g → Steps (commit e v s g) t (said 0 1 0) (set (set t (768 + e) s) (1024 + e) v)
+      pub commit-same : (g ≡ 0 → ⊥) → found ≡ g → Steps (commit e v s g) t (reply 0 1 0) (set (set t (768 + e) s) (1024 + e) v)
       commit-same z x =
           changed (commit e v s g) t _ w _ (committed (storeOf t) e s v) (rw (found-is, ne-eqb g 0 z, eq-eqb g found (sym x)))
           (λ n y. set-cell n t w y e h s v)
@@ -139,29 +139,29 @@ module _ (t : List ℕ) (w : length t ≡ 1280) where
     unfolding storeOf
     boundary-is = part-at 0 t e h ∙ ap (λ (i : ℕ). getD t i 0) (zero-add e)
 
-    pub split-first : e ≡ 0 → Steps (split e) t (said 28 0 0) t
+    pub split-first : e ≡ 0 → Steps (split e) t (reply 28 0 0) t
     split-first z = kept (split e) t _ w (rw (eq-eqb e 0 z))
 
-    pub split-stands : (e ≡ 0 → ⊥) → getD t e 0 ≡ 1 → Steps (split e) t (said 35 0 0) t
+    pub split-stands : (e ≡ 0 → ⊥) → getD t e 0 ≡ 1 → Steps (split e) t (reply 35 0 0) t
     split-stands z x = kept (split e) t _ w (rw (boundary-is, ne-eqb e 0 z, eq-eqb (getD t e 0) 1 x))
 
-    pub split-set : (e ≡ 0 → ⊥) → (getD t e 0 ≡ 1 → ⊥) → Steps (split e) t (said 0 0 0) (set t e 1)
+    pub split-set : (e ≡ 0 → ⊥) → (getD t e 0 ≡ 1 → ⊥) → Steps (split e) t (reply 0 0 0) (set t e 1)
     split-set z x =
         changed (split e) t _ w _ (with-boundary (storeOf t) (put e 1 (storeOf t .boundary))) (rw (boundary-is, ne-eqb e 0 z, ne-eqb (getD t e 0) 1 x))
         (λ n y. set-boundary n t w y e h 1)
 
-    pub merge-first : e ≡ 0 → Steps (merge e) t (said 28 0 0) t
+    pub merge-first : e ≡ 0 → Steps (merge e) t (reply 28 0 0) t
     merge-first z = kept (merge e) t _ w (rw (eq-eqb e 0 z))
 
-    pub merge-none : (e ≡ 0 → ⊥) → getD t e 0 ≡ 0 → Steps (merge e) t (said 35 0 0) t
+    pub merge-none : (e ≡ 0 → ⊥) → getD t e 0 ≡ 0 → Steps (merge e) t (reply 35 0 0) t
     merge-none z x = kept (merge e) t _ w (rw (boundary-is, ne-eqb e 0 z, eq-eqb (getD t e 0) 0 x))
 
-    pub merge-set : (e ≡ 0 → ⊥) → (getD t e 0 ≡ 0 → ⊥) → Steps (merge e) t (said 0 0 0) (set t e 0)
+    pub merge-set : (e ≡ 0 → ⊥) → (getD t e 0 ≡ 0 → ⊥) → Steps (merge e) t (reply 0 0 0) (set t e 0)
     merge-set z x =
         changed (merge e) t _ w _ (with-boundary (storeOf t) (put e 0 (storeOf t .boundary))) (rw (boundary-is, ne-eqb e 0 z, ne-eqb (getD t e 0) 0 x))
         (λ n y. set-boundary n t w y e h 0)
 
-    pub restart-is : (lo hi : ℕ) → lo ≡ tablet-first bounds e → hi ≡ tablet-end bounds e (255 - e) → lo ≤ hi → hi ≤ 256 → Steps (restart e) t (said 0 0 0) (rebuilt t lo hi 0)
+    pub restart-is : (lo hi : ℕ) → lo ≡ tablet-first bounds e → hi ≡ tablet-end bounds e (255 - e) → lo ≤ hi → hi ≤ 256 → Steps (restart e) t (reply 0 0 0) (rebuilt t lo hi 0)
     unfolding storeOf part
     restart-is lo hi el eh a b =
         changed (restart e) t _ w _ (guarded (storeOf t) lo hi 0) (rw (el, eh))
@@ -184,13 +184,13 @@ module _ (t : List ℕ) (r : Reply) (e : r ≡ checked serials t) where
   pub refused : (f : Store → Result) → (r .code ≡ 0 → ⊥) → done r t ≡ called f t
   refused f h =
       rw e
-      (not-both (eqb (length t) 1280) (valid serials t) (said 0 0 0) (said 22 0 0) (said 21 0 0) t (encoded (f (storeOf t)))
+      (not-both (eqb (length t) 1280) (valid serials t) (reply 0 0 0) (reply 22 0 0) (reply 21 0 0) t (encoded (f (storeOf t)))
       (λ x. h (ap (λ (y : Reply). y .code) e ∙ x)) refl)
 
   module _ (z : r .code ≡ 0) where
     pub passed : (eqb (length t) 1280 ≡ true) × (valid serials t ≡ true)
     passed =
-        both-tests (eqb (length t) 1280) (valid serials t) (said 0 0 0) (said 22 0 0) (said 21 0 0) (λ x. eqb-false 22 0 refl x) (λ x. eqb-false 21 0 refl x)
+        both-tests (eqb (length t) 1280) (valid serials t) (reply 0 0 0) (reply 22 0 0) (reply 21 0 0) (λ x. eqb-false 22 0 refl x) (λ x. eqb-false 21 0 refl x)
         (sym (ap (λ (y : Reply). y .code) e) ∙ z)
 
     long : length t ≡ 1280
@@ -212,8 +212,8 @@ module _ (t : List ℕ) (r : Reply) (e : r ≡ checked serials t) where
     abbrev pub guarded-call : Store → Result
     guarded-call st = cond (bad-serial n) (refusal 28 st) (g st)
 
-    pub wrong-serial : bad-serial n ≡ true → done (said 28 0 0) t ≡ called guarded-call t
-    wrong-serial h = declined z guarded-call (said 28 0 0) (rw h)
+    pub wrong-serial : bad-serial n ≡ true → done (reply 28 0 0) t ≡ called guarded-call t
+    wrong-serial h = declined z guarded-call (reply 28 0 0) (rw h)
 
     pub good-serial : bad-serial n ≡ false → (a : Reply) (t′ : List ℕ) → Steps g t a t′ → done a t′ ≡ called guarded-call t
     good-serial h a t′ s = rw h (finished z g a t′ s)
