@@ -1,0 +1,129 @@
+//! The calls that the library exports, as a trait over plain slices.
+//!
+//! What implements it can be compared with the model (`compare`) and measured (`bench`): the proved
+//! library behind its `extern "C"` calls, and the port of its code to Rust. Numbers are those of
+//! document 01; `docs/FORMATS.md` gives the tables to the word.
+
+#![forbid(unsafe_code)]
+#![warn(missing_docs)]
+
+/// A code and two numbers.
+#[derive(Clone, Copy, Debug, Default, PartialEq, Eq)]
+#[allow(missing_docs)]
+pub struct Reply {
+    pub code: u32,
+    pub a: u32,
+    pub b: u32,
+}
+
+/// What a run reports: why it stopped, the number of records taken, and the byte place just after
+/// them.
+#[derive(Clone, Copy, Debug, Default, PartialEq, Eq)]
+#[allow(missing_docs)]
+pub struct Report {
+    pub why: u32,
+    pub records: u32,
+    pub place: u32,
+}
+
+/// What stands at the start of some bytes: code 0 with the record's length and fields, or a
+/// refusal's number with zeros.
+#[derive(Clone, Copy, Debug, Default, PartialEq, Eq)]
+#[allow(missing_docs)]
+pub struct Decoded {
+    pub code: u32,
+    pub length: u32,
+    pub kind: u32,
+    pub player: u32,
+    pub entry: u32,
+    pub high: u32,
+    pub value: u32,
+    pub serial: u32,
+}
+
+/// A step by its fields, at the widths of a record. Those that the kind lacks are 0.
+#[derive(Clone, Copy, Debug, Default, PartialEq, Eq)]
+#[allow(missing_docs)]
+pub struct Fields {
+    pub kind: u8,
+    pub player: u8,
+    /// The entry, or a range's low.
+    pub entry: u8,
+    pub high: u16,
+    pub value: u32,
+    pub serial: u32,
+}
+
+/// One place of the lent list of requests.
+#[derive(Clone, Copy, Debug, Default, PartialEq, Eq)]
+#[allow(missing_docs)]
+pub struct Request {
+    pub serial: u32,
+    pub player: u8,
+    pub kind: u8,
+    pub low: u8,
+    pub high: u16,
+    pub value: u32,
+    pub guard: u32,
+    pub overlapped: bool,
+    pub delivered: bool,
+    pub abandoned: bool,
+    pub first: u32,
+    pub second: u32,
+}
+
+/// The calls. Slices of any length and contents are taken.
+pub trait Library {
+    /// Makes both tables fresh.
+    fn fresh(&self, store: &mut [u32], players: &mut [u32]) -> Reply;
+    /// Whether both tables keep the rules.
+    fn check(&self, store: &[u32], players: &[u32]) -> Reply;
+    /// One step. A kind that is not 1 to 13 is 26, a field that the kind lacks and that is not 0 is
+    /// 27; both come before the tests of the tables.
+    fn step(&self, store: &mut [u32], players: &mut [u32], step: Fields) -> Reply;
+    /// A run over a session.
+    fn run(
+        &self,
+        store: &mut [u32],
+        players: &mut [u32],
+        session: &[u8],
+        budget: u32,
+        replies: &mut [u32],
+    ) -> Report;
+    /// The record that stands at the start of the bytes.
+    fn decode(&self, part: &[u8]) -> Decoded;
+    /// Writes a step's record: 26 and 27 as in [`Library::step`], then 36.
+    fn encode(&self, step: Fields, out: &mut [u8]) -> Reply;
+    /// Writes the session's mark.
+    fn put_mark(&self, out: &mut [u8]) -> Reply;
+    /// Whether a session begins with the mark.
+    fn marked(&self, session: &[u8]) -> bool;
+    /// How many pending requests of the player stand in a lent list.
+    fn waiting(&self, list: &[Request], player: u8) -> Reply;
+
+    /// Makes the table of a fresh store.
+    fn store_fresh(&self, store: &mut [u32]) -> Reply;
+    /// Whether a store's table keeps the rules.
+    fn store_check(&self, store: &[u32]) -> Reply;
+    /// The same, where `last` is the last serial issued.
+    fn store_check_at(&self, store: &[u32], last: u32) -> Reply;
+    /// The version and value of an entry.
+    fn store_read(&self, store: &[u32], entry: u8) -> Reply;
+    /// A write that carries a guard.
+    fn store_write(
+        &self,
+        store: &mut [u32],
+        entry: u8,
+        value: u32,
+        serial: u32,
+        guard: u32,
+    ) -> Reply;
+    /// Sets a guard, numbered by its serial, over a range.
+    fn store_set_guard(&self, store: &mut [u32], low: u8, high: u16, serial: u32) -> Reply;
+    /// A boundary before an entry.
+    fn store_split(&self, store: &mut [u32], entry: u8) -> Reply;
+    /// The boundary before an entry removed.
+    fn store_merge(&self, store: &mut [u32], entry: u8) -> Reply;
+    /// The guards of the tablet that holds an entry become 0.
+    fn store_restart(&self, store: &mut [u32], entry: u8) -> Reply;
+}

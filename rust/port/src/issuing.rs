@@ -1,0 +1,118 @@
+//! Steps 3, 4 and 5: requests that are issued.
+
+use calls::{Reply, Request};
+
+use crate::{cells, issued, refuse, region, Range, SERIALS};
+
+/// Adds a request at place `k`, the first that is not used; its serial is the last one issued.
+fn add(players: &mut [u32], k: usize, r: Request) {
+    players[0] = r.serial;
+    region::put(&mut players[8705..9473], k, r);
+}
+
+/// Step 3: the player must own every entry of the range, and its guards there are cleared.
+pub fn request_guard(players: &mut [u32], player: u8, range: Range) -> Reply {
+    if player > 7 {
+        return refuse(28);
+    }
+    let Some((low, high)) = range.ends() else {
+        return refuse(28);
+    };
+    if !cells::all_are(&players[1 + low..1 + high], u32::from(player)) {
+        return refuse(29);
+    }
+    let scan = region::scan_requests(&players[8705..9473], player, range);
+    if scan.hit {
+        return refuse(31);
+    }
+    if scan.used >= 64 {
+        return refuse(33);
+    }
+    let last = players[0];
+    if last >= SERIALS {
+        return refuse(34);
+    }
+    let i = usize::from(player) * 256;
+    cells::clear(players, i + low, i + high);
+    let request = Request {
+        serial: last + 1,
+        player,
+        kind: 3,
+        low: range.low,
+        high: range.high,
+        ..Request::default()
+    };
+    add(players, scan.used, request);
+    issued(last + 1)
+}
+
+/// Step 4: from the cache if it holds a live value, else a request.
+pub fn read(players: &mut [u32], player: u8, entry: u8) -> Reply {
+    if player > 7 {
+        return refuse(28);
+    }
+    let i = usize::from(player) * 256 + usize::from(entry);
+    if cells::is_hit(players, player, entry) {
+        return Reply {
+            code: 2,
+            a: players[4609 + i],
+            b: players[6657 + i],
+        };
+    }
+    if region::is_full(&players[8705..9473]) {
+        return refuse(33);
+    }
+    let last = players[0];
+    if last >= SERIALS {
+        return refuse(34);
+    }
+    let guard = cells::live_guard(players, player, entry);
+    let scan = region::scan_writes(&players[8705..9473], player, entry);
+    let request = Request {
+        serial: last + 1,
+        player,
+        kind: 4,
+        low: entry,
+        guard,
+        overlapped: scan.hit,
+        ..Request::default()
+    };
+    add(players, scan.used, request);
+    issued(last + 1)
+}
+
+/// Step 5: needs ownership and a live guard, which the request carries.
+pub fn write(players: &mut [u32], player: u8, entry: u8, value: u32) -> Reply {
+    if player > 7 {
+        return refuse(28);
+    }
+    let e = usize::from(entry);
+    if players[1 + e] != u32::from(player) {
+        return refuse(29);
+    }
+    let guard = cells::live_guard(players, player, entry);
+    if guard == 0 {
+        return refuse(30);
+    }
+    if region::is_full(&players[8705..9473]) {
+        return refuse(33);
+    }
+    let last = players[0];
+    if last >= SERIALS {
+        return refuse(34);
+    }
+    cells::cache(players, usize::from(player) * 256 + e, 0, 0, 0);
+    let scan = region::cross(&mut players[8705..9473], player, entry);
+    let request = Request {
+        serial: last + 1,
+        player,
+        kind: 5,
+        low: entry,
+        value,
+        guard,
+        overlapped: scan.hit,
+        ..Request::default()
+    };
+    add(players, scan.used, request);
+    issued(last + 1)
+}

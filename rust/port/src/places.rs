@@ -1,0 +1,154 @@
+//! One place of the requests region: 12 words, which hold a request; and tests of one request.
+
+use calls::Request;
+
+use crate::Range;
+
+/// The request of place `k`.
+pub fn request_at(region: &[u32], k: usize) -> Request {
+    let words = &region[k * 12..k * 12 + 12];
+    Request {
+        serial: words[0],
+        player: (words[1] % 8) as u8,
+        kind: (words[2] % 256) as u8,
+        low: (words[3] % 256) as u8,
+        high: (words[4] % 65536) as u16,
+        value: words[5],
+        guard: words[6],
+        overlapped: words[7] == 1,
+        delivered: words[8] == 1,
+        abandoned: words[9] == 1,
+        first: words[10],
+        second: words[11],
+    }
+}
+
+/// Makes place `k` hold `r`.
+pub fn put_request(region: &mut [u32], k: usize, r: Request) {
+    region[k * 12..k * 12 + 12].copy_from_slice(&[
+        r.serial,
+        u32::from(r.player),
+        u32::from(r.kind),
+        u32::from(r.low),
+        u32::from(r.high),
+        r.value,
+        r.guard,
+        u32::from(r.overlapped),
+        u32::from(r.delivered),
+        u32::from(r.abandoned),
+        r.first,
+        r.second,
+    ]);
+}
+
+/// Takes place `k` out: later places move down by one, and the last becomes unused.
+pub fn close(region: &mut [u32], k: usize) {
+    region.copy_within(k * 12 + 12.., k * 12);
+    region[756..768].fill(0);
+}
+
+/// Carries the request of place `k` over to place `j` if it remains when the player restarts. The
+/// place for the next one.
+pub fn carry(region: &mut [u32], j: usize, k: usize, player: u8) -> usize {
+    let r = request_at(region, k);
+    if !remains(r, player) {
+        return j;
+    }
+    region.copy_within(k * 12..k * 12 + 12, j * 12);
+    if r.player == player {
+        region[j * 12 + 9] = 1;
+    }
+    j + 1
+}
+
+/// A pending guard request of the player that shares an entry with the range.
+pub fn is_requesting(r: Request, player: u8, range: Range) -> bool {
+    !r.abandoned
+        && r.kind == 3
+        && r.player == player
+        && u16::from(r.low) < range.high
+        && u16::from(range.low) < r.high
+}
+
+/// A pending write of the player on the entry.
+pub fn is_writing(r: Request, player: u8, entry: u8) -> bool {
+    !r.abandoned && r.kind == 5 && r.player == player && r.low == entry
+}
+
+/// A pending read or write of the player on the entry.
+pub fn is_using(r: Request, player: u8, entry: u8) -> bool {
+    !r.abandoned && r.kind != 3 && r.player == player && r.low == entry
+}
+
+/// Whether a request remains when the player restarts: all but those of its pending ones that are
+/// delivered.
+fn remains(r: Request, player: u8) -> bool {
+    r.player != player || r.abandoned || !r.delivered
+}
+
+/// Whether the fields that a request's kind has, and those that it lacks, keep the rules.
+fn fields_hold(r: Request) -> bool {
+    match r.kind {
+        3 => {
+            u16::from(r.low) < r.high
+                && r.high <= 256
+                && r.value == 0
+                && r.guard == 0
+                && !r.overlapped
+        }
+        4 => r.high == 0 && r.value == 0,
+        5 => r.high == 0 && r.guard != 0,
+        _ => false,
+    }
+}
+
+/// Whether a request's outcome keeps the rules.
+fn outcome_holds(r: Request, last: u32) -> bool {
+    if !r.delivered {
+        return r.first == 0 && r.second == 0;
+    }
+    if r.abandoned {
+        return false;
+    }
+    if r.kind == 4 {
+        return r.first <= last;
+    }
+    (1..=2).contains(&r.first) && r.second == 0
+}
+
+/// Whether a request keeps the rules.
+fn request_holds(r: Request, last: u32) -> bool {
+    r.serial <= last
+        && r.player <= 7
+        && r.guard < r.serial
+        && fields_hold(r)
+        && outcome_holds(r, last)
+}
+
+/// Whether the words of a place fit their fields.
+fn words_fit(words: &[u32]) -> bool {
+    words[1] <= 7
+        && words[2] <= 255
+        && words[3] <= 255
+        && words[4] <= 65535
+        && words[7] <= 1
+        && words[8] <= 1
+        && words[9] <= 1
+}
+
+/// Whether the 64 places keep the rules.
+pub fn places_hold(region: &[u32], last: u32) -> bool {
+    let mut serial = 0;
+    for k in 0..64 {
+        let rest = &region[k * 12..];
+        let next = rest[0];
+        if next == 0 {
+            return crate::words::at_most(rest, 0);
+        }
+        if next <= serial || !words_fit(rest) || !request_holds(request_at(region, k), last) {
+            return false;
+        }
+        serial = next;
+    }
+    true
+}

@@ -1,0 +1,55 @@
+//! The players' table: fresh, and the test of its rules.
+
+use calls::Reply;
+
+use crate::words::at_most;
+use crate::{refuse, region, store, PLAYERS, SERIALS, STORE};
+
+/// Makes both tables fresh.
+pub fn fresh(store: &mut [u32], players: &mut [u32]) -> Reply {
+    if store.len() != STORE || players.len() != PLAYERS {
+        return refuse(21);
+    }
+    players.fill(0);
+    players[1..257].fill(8);
+    store::fresh(store)
+}
+
+/// Whether a cached value keeps the rules.
+fn value_holds(last: u32, guard: u32, version: u32, value: u32) -> bool {
+    guard <= last && version <= last && (guard != 0 || (version == 0 && value == 0))
+}
+
+/// Whether each cached value keeps the rules.
+fn values_hold(players: &[u32]) -> bool {
+    let last = players[0];
+    let (guards, versions) = (&players[2561..4609], &players[4609..6657]);
+    let values = &players[6657..8705];
+    guards
+        .iter()
+        .zip(versions)
+        .zip(values)
+        .all(|((&guard, &version), &value)| value_holds(last, guard, version, value))
+}
+
+/// Whether a players' table keeps the rules.
+fn players_hold(players: &[u32]) -> bool {
+    let last = players[0];
+    last <= SERIALS
+        && at_most(&players[1..257], 8)
+        && at_most(&players[257..513], last)
+        && at_most(&players[513..2561], last)
+        && values_hold(players)
+        && region::holds(&players[8705..9473], last)
+}
+
+/// Whether both tables keep the rules.
+pub fn check(store: &[u32], players: &[u32]) -> Reply {
+    if store.len() != STORE || players.len() != PLAYERS {
+        return refuse(21);
+    }
+    if store::check_at(store, players[0]).code != 0 || !players_hold(players) {
+        return refuse(22);
+    }
+    refuse(0)
+}

@@ -1,0 +1,217 @@
+//! The store: its calls with the test of the table, and (module `steps`) without.
+
+use calls::Reply;
+
+use crate::words::at_most;
+use crate::{answer, refuse, Range, SERIALS, STORE};
+
+/// Makes the table of a fresh store.
+pub fn fresh(store: &mut [u32]) -> Reply {
+    if store.len() != STORE {
+        return refuse(21);
+    }
+    store.fill(0);
+    store[0] = 1;
+    answer(0)
+}
+
+/// Whether all places from `k` on are 0.
+fn unused(starts: &[u32], guards: &[u32], k: usize) -> bool {
+    at_most(&starts[k..], 0) && at_most(&guards[k..], 0)
+}
+
+/// Whether the intervals after the first rise, differ from their neighbours and have no guard above
+/// `last`.
+fn rising_holds(starts: &[u32], guards: &[u32], last: u32) -> bool {
+    let (mut start, mut guard) = (0, guards[0]);
+    for k in 1..256 {
+        let (next, other) = (starts[k], guards[k]);
+        if next == 0 {
+            return unused(starts, guards, k);
+        }
+        if next <= start || next >= 256 || other == guard || other > last {
+            return false;
+        }
+        (start, guard) = (next, other);
+    }
+    true
+}
+
+fn intervals_hold(starts: &[u32], guards: &[u32], last: u32) -> bool {
+    starts[0] == 0 && guards[0] <= last && rising_holds(starts, guards, last)
+}
+
+fn table_holds(store: &[u32], last: u32) -> bool {
+    store[0] == 1
+        && at_most(&store[..256], 1)
+        && intervals_hold(&store[256..512], &store[512..768], last)
+        && at_most(&store[768..1024], last)
+}
+
+/// Whether a table keeps the rules, where `last` is the last serial issued.
+pub fn check_at(store: &[u32], last: u32) -> Reply {
+    if store.len() != STORE {
+        return refuse(21);
+    }
+    if !table_holds(store, last) {
+        return refuse(22);
+    }
+    answer(0)
+}
+
+/// Whether a table keeps the rules.
+pub fn check(store: &[u32]) -> Reply {
+    check_at(store, SERIALS)
+}
+
+fn bad_serial(serial: u32) -> bool {
+    serial == 0 || serial > SERIALS
+}
+
+/// A call behind the test of the table.
+fn tested(store: &mut [u32], call: impl FnOnce(&mut [u32]) -> Reply) -> Reply {
+    let tested = check(store);
+    if tested.code != 0 {
+        return tested;
+    }
+    call(store)
+}
+
+/// Sets a guard, numbered by its serial, over a range that lies in one tablet.
+pub fn set_guard(store: &mut [u32], range: Range, serial: u32) -> Reply {
+    tested(store, |store| {
+        if bad_serial(serial) {
+            return refuse(28);
+        }
+        steps::install(store, range, serial)
+    })
+}
+
+/// The version and value of an entry.
+pub fn read(store: &[u32], entry: u8) -> Reply {
+    let tested = check(store);
+    if tested.code != 0 {
+        return tested;
+    }
+    steps::read(store, entry)
+}
+
+/// A write that commits if the guard it carries is the entry's, and not 0.
+pub fn write(store: &mut [u32], entry: u8, value: u32, serial: u32, guard: u32) -> Reply {
+    tested(store, |store| {
+        if bad_serial(serial) {
+            return refuse(28);
+        }
+        steps::commit(store, entry, value, serial, guard)
+    })
+}
+
+/// A boundary before an entry.
+pub fn split(store: &mut [u32], entry: u8) -> Reply {
+    tested(store, |store| steps::split(store, entry))
+}
+
+/// The boundary before an entry removed.
+pub fn merge(store: &mut [u32], entry: u8) -> Reply {
+    tested(store, |store| steps::merge(store, entry))
+}
+
+/// The guards of the tablet that holds an entry become 0.
+pub fn restart(store: &mut [u32], entry: u8) -> Reply {
+    tested(store, |store| steps::restart(store, entry))
+}
+
+/// The store's operations on a table that is known to keep the rules: only the length is tested.
+pub mod steps {
+    use super::*;
+    use crate::{guards, tablets};
+
+    /// Sets a guard over a range that lies in one tablet.
+    pub fn install(store: &mut [u32], range: Range, guard: u32) -> Reply {
+        if store.len() != STORE {
+            return refuse(21);
+        }
+        let Some((low, high)) = range.ends() else {
+            return refuse(28);
+        };
+        if !tablets::one_tablet(&store[..256], low, high) {
+            return answer(2);
+        }
+        guards::rebuild(store, low, high, guard);
+        answer(1)
+    }
+
+    /// The version and value of an entry.
+    pub fn read(store: &[u32], entry: u8) -> Reply {
+        if store.len() != STORE {
+            return refuse(21);
+        }
+        let e = usize::from(entry);
+        Reply {
+            code: 0,
+            a: store[768 + e],
+            b: store[1024 + e],
+        }
+    }
+
+    /// A write that commits if the guard it carries is the entry's, and not 0.
+    pub fn commit(store: &mut [u32], entry: u8, value: u32, serial: u32, guard: u32) -> Reply {
+        if store.len() != STORE {
+            return refuse(21);
+        }
+        if guard == 0 {
+            return answer(2);
+        }
+        if guards::find_guard(&store[256..512], &store[512..768], u32::from(entry)) != guard {
+            return answer(2);
+        }
+        let e = usize::from(entry);
+        store[768 + e] = serial;
+        store[1024 + e] = value;
+        answer(1)
+    }
+
+    /// A boundary before an entry.
+    pub fn split(store: &mut [u32], entry: u8) -> Reply {
+        if store.len() != STORE {
+            return refuse(21);
+        }
+        let e = usize::from(entry);
+        if e == 0 {
+            return refuse(28);
+        }
+        if store[e] == 1 {
+            return refuse(35);
+        }
+        store[e] = 1;
+        answer(0)
+    }
+
+    /// The boundary before an entry removed.
+    pub fn merge(store: &mut [u32], entry: u8) -> Reply {
+        if store.len() != STORE {
+            return refuse(21);
+        }
+        let e = usize::from(entry);
+        if e == 0 {
+            return refuse(28);
+        }
+        if store[e] == 0 {
+            return refuse(35);
+        }
+        store[e] = 0;
+        answer(0)
+    }
+
+    /// The guards of the tablet that holds an entry become 0.
+    pub fn restart(store: &mut [u32], entry: u8) -> Reply {
+        if store.len() != STORE {
+            return refuse(21);
+        }
+        let e = usize::from(entry);
+        let low = tablets::tablet_start(&store[..256], e);
+        let high = tablets::tablet_limit(&store[..256], e);
+        guards::rebuild(store, low, high, 0);
+        answer(0)
+    }
+}
