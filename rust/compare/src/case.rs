@@ -1,0 +1,291 @@
+//! One case: start tables and what is called; and how library and model differ on it.
+
+use calls::{Fields, Library, Reply, Request};
+use model::rules;
+use model::step::Step;
+use model::tables::{self, tables_of};
+
+use crate::cells::{Call, Counts};
+use crate::oracle::{fields_of, reply_of, RIGHT};
+
+/// What is called.
+#[derive(Clone, Debug)]
+#[allow(missing_docs)]
+pub enum Act {
+    Fresh,
+    Check,
+    /// Steps one after the other, each by a call; both tables are compared after each.
+    Steps(Vec<Step>),
+    /// One step by any fields.
+    Fields(Fields),
+    /// A run with a list of this many words.
+    Run {
+        session: Vec<u8>,
+        budget: u32,
+        list: usize,
+    },
+    Decode(Vec<u8>),
+    /// A record written to a buffer of this many bytes.
+    Encode(Fields, usize),
+    PutMark(usize),
+    Marked(Vec<u8>),
+    Waiting(Vec<Request>, u8),
+    Store(StoreCall),
+}
+
+/// A call of the store used alone.
+#[derive(Clone, Copy, Debug, PartialEq, Eq)]
+#[allow(missing_docs)]
+pub enum StoreCall {
+    Fresh,
+    Check,
+    CheckAt {
+        last: u32,
+    },
+    Read {
+        entry: u8,
+    },
+    Write {
+        entry: u8,
+        value: u32,
+        serial: u32,
+        guard: u32,
+    },
+    SetGuard {
+        low: u8,
+        high: u16,
+        serial: u32,
+    },
+    Split {
+        entry: u8,
+    },
+    Merge {
+        entry: u8,
+    },
+    Restart {
+        entry: u8,
+    },
+}
+
+/// Start tables and what is called.
+#[derive(Clone, Debug)]
+#[allow(missing_docs)]
+pub struct Case {
+    pub store: Vec<u32>,
+    pub players: Vec<u32>,
+    pub act: Act,
+}
+
+/// Where library and model differ.
+#[derive(Clone, Debug, PartialEq, Eq)]
+pub struct Difference {
+    /// Of steps, how many were played with the one that shows it.
+    pub after: usize,
+    /// What differs.
+    pub what: String,
+}
+
+/// What a word that must not be written holds before.
+const POISON: u32 = 0xA5A5_0000;
+
+fn poisoned_words(words: usize) -> Vec<u32> {
+    (0..words).map(|at| POISON + at as u32).collect()
+}
+
+fn poisoned_bytes(bytes: usize) -> Vec<u8> {
+    (0..bytes).map(|at| 0xA5 ^ at as u8).collect()
+}
+
+/// The first place where two buffers differ.
+fn first_difference<T: PartialEq + std::fmt::Display>(
+    what: &str,
+    library: &[T],
+    model: &[T],
+) -> Option<String> {
+    if library == model {
+        return None;
+    }
+    let at = library
+        .iter()
+        .zip(model)
+        .position(|(one, other)| one != other)?;
+    Some(format!(
+        "{what} {at}: library {}, model {}",
+        library[at], model[at]
+    ))
+}
+
+fn replies_differ(library: Reply, model: Reply) -> Option<String> {
+    let show = |reply: Reply| format!("{} {} {}", reply.code, reply.a, reply.b);
+    (library != model).then(|| format!("reply: library {}, model {}", show(library), show(model)))
+}
+
+impl Case {
+    /// A case that begins with fresh tables.
+    pub fn fresh(act: Act) -> Case {
+        let (store, players) = tables::fresh_tables();
+        Case {
+            store,
+            players,
+            act,
+        }
+    }
+
+    /// How library and model differ on this case, if they do. The model's replies are counted.
+    pub fn differs(&self, library: &impl Library, counts: &mut Counts) -> Option<Difference> {
+        let (after, what) = match &self.act {
+            Act::Steps(steps) => return self.steps_differ(steps, library, counts),
+            _ => (0, self.call_differs(library, counts)?),
+        };
+        Some(Difference { after, what })
+    }
+
+    /// Steps one after the other: after each one the reply and both tables.
+    fn steps_differ(
+        &self,
+        steps: &[Step],
+        library: &impl Library,
+        counts: &mut Counts,
+    ) -> Option<Difference> {
+        let (mut store, mut players) = (self.store.clone(), self.players.clone());
+        let mut state = tables::decode(&self.store, &self.players);
+        let mut right = (self.store.clone(), self.players.clone());
+        for (at, &step) in steps.iter().enumerate() {
+            let model = match &mut state {
+                Ok(state) => {
+                    let reply = rules::step(state, step);
+                    if !reply.is_refusal() {
+                        right = tables_of(state);
+                    }
+                    reply_of(reply)
+                }
+                Err(error) => Reply {
+                    code: error.refusal().number(),
+                    ..Reply::default()
+                },
+            };
+            counts.note(Call::Step(step.kind()), model.code);
+            counts.steps += 1;
+            let said = library.step(&mut store, &mut players, fields_of(step));
+            let what = replies_differ(said, model)
+                .or_else(|| first_difference("store's table, word", &store, &right.0))
+                .or_else(|| first_difference("players' table, word", &players, &right.1));
+            if let Some(what) = what {
+                return Some(Difference {
+                    after: at + 1,
+                    what: format!("step {}: {what}", at + 1),
+                });
+            }
+        }
+        None
+    }
+
+    /// One call: what it gives, and what it leaves of all it is lent.
+    fn call_differs(&self, library: &impl Library, counts: &mut Counts) -> Option<String> {
+        let model = RIGHT;
+        let (mut store, mut players) = (self.store.clone(), self.players.clone());
+        let mut right = (self.store.clone(), self.players.clone());
+        let what = match &self.act {
+            Act::Steps(_) => None,
+            Act::Fresh => {
+                let expected = model.fresh(&mut right.0, &mut right.1);
+                counts.note(Call::Fresh, expected.code);
+                replies_differ(library.fresh(&mut store, &mut players), expected)
+            }
+            Act::Check => {
+                let expected = model.check(&right.0, &right.1);
+                counts.note(Call::Check, expected.code);
+                replies_differ(library.check(&store, &players), expected)
+            }
+            Act::Fields(fields) => {
+                let expected = model.step(&mut right.0, &mut right.1, *fields);
+                let kind = if fields.kind <= 13 { fields.kind } else { 0 };
+                counts.note(Call::Step(kind), expected.code);
+                counts.steps += 1;
+                replies_differ(library.step(&mut store, &mut players, *fields), expected)
+            }
+            Act::Run {
+                session,
+                budget,
+                list,
+            } => {
+                let (mut said, mut expected) = (poisoned_words(*list), poisoned_words(*list));
+                let report = model.run(&mut right.0, &mut right.1, session, *budget, &mut expected);
+                counts.note(Call::Run, report.why);
+                counts.steps += u64::from(report.records);
+                let told = library.run(&mut store, &mut players, session, *budget, &mut said);
+                let differs = told != report;
+                differs
+                    .then(|| format!("report: library {told:?}, model {report:?}"))
+                    .or_else(|| first_difference("list of replies, word", &said, &expected))
+            }
+            Act::Decode(part) => {
+                let expected = model.decode(part);
+                counts.note(Call::Decode, expected.code);
+                let said = library.decode(part);
+                (said != expected).then(|| format!("library {said:?}, model {expected:?}"))
+            }
+            Act::Encode(fields, bytes) => {
+                let (mut said, mut expected) = (poisoned_bytes(*bytes), poisoned_bytes(*bytes));
+                let reply = model.encode(*fields, &mut expected);
+                let kind = if fields.kind <= 13 { fields.kind } else { 0 };
+                counts.note(Call::Encode(kind), reply.code);
+                replies_differ(library.encode(*fields, &mut said), reply)
+                    .or_else(|| first_difference("buffer, byte", &said, &expected))
+            }
+            Act::PutMark(bytes) => {
+                let (mut said, mut expected) = (poisoned_bytes(*bytes), poisoned_bytes(*bytes));
+                let reply = model.put_mark(&mut expected);
+                counts.note(Call::PutMark, reply.code);
+                replies_differ(library.put_mark(&mut said), reply)
+                    .or_else(|| first_difference("buffer, byte", &said, &expected))
+            }
+            Act::Marked(session) => {
+                let expected = model.marked(session);
+                counts.note(Call::Marked, u32::from(expected));
+                let said = library.marked(session);
+                (said != expected).then(|| format!("library {said}, model {expected}"))
+            }
+            Act::Waiting(list, player) => {
+                let expected = model.waiting(list, *player);
+                counts.note(Call::Waiting, expected.code);
+                replies_differ(library.waiting(list, *player), expected)
+            }
+            Act::Store(call) => {
+                let (name, expected) = on_store(&model, &mut right.0, *call);
+                counts.note(name, expected.code);
+                if expected.code == 0 {
+                    counts.note_outcome(name, expected.a);
+                }
+                replies_differ(on_store(library, &mut store, *call).1, expected)
+            }
+        };
+        what.or_else(|| first_difference("store's table, word", &store, &right.0))
+            .or_else(|| first_difference("players' table, word", &players, &right.1))
+    }
+}
+
+fn on_store(library: &impl Library, store: &mut [u32], call: StoreCall) -> (Call, Reply) {
+    match call {
+        StoreCall::Fresh => (Call::StoreFresh, library.store_fresh(store)),
+        StoreCall::Check => (Call::StoreCheck, library.store_check(store)),
+        StoreCall::CheckAt { last } => (Call::StoreCheckAt, library.store_check_at(store, last)),
+        StoreCall::Read { entry } => (Call::StoreRead, library.store_read(store, entry)),
+        StoreCall::Write {
+            entry,
+            value,
+            serial,
+            guard,
+        } => (
+            Call::StoreWrite,
+            library.store_write(store, entry, value, serial, guard),
+        ),
+        StoreCall::SetGuard { low, high, serial } => (
+            Call::StoreSetGuard,
+            library.store_set_guard(store, low, high, serial),
+        ),
+        StoreCall::Split { entry } => (Call::StoreSplit, library.store_split(store, entry)),
+        StoreCall::Merge { entry } => (Call::StoreMerge, library.store_merge(store, entry)),
+        StoreCall::Restart { entry } => (Call::StoreRestart, library.store_restart(store, entry)),
+    }
+}

@@ -1,0 +1,21 @@
+//! Compares any [`calls::Library`] with the model of the rules: every reply, and every word of both
+//! tables, buffers and lists, on random and hand-made cases.
+//!
+//! | Module | Holds |
+//! |---|---|
+//! | `oracle` | the model as a library, also with one of its faults |
+//! | `case` | one case: start tables and what is called; how library and model differ on it |
+//! | `shrink` | a failing case made small, and printed as a session file |
+//! | `cells` | which replies each call can give, written down from document 01, and counts of them |
+//! | `suites` | the cases, in groups |
+//! | `wrong` | libraries that are wrong in one point each, to show that the comparison sees it |
+
+#![forbid(unsafe_code)]
+#![warn(missing_docs)]
+
+pub mod case;
+pub mod cells;
+pub mod oracle;
+pub mod shrink;
+pub mod suites;
+pub mod wrong;

@@ -1,0 +1,716 @@
+//! The cases, in groups.
+
+use calls::{Fields, Library, Request};
+use model::broken::{break_rule, damage};
+use model::codec::{self, map_of, MARK, MAX_SESSION, RECORD_LENGTHS};
+use model::generate::{any_step, step_for, Profile};
+use model::prng::Prng;
+use model::rules;
+use model::state::{State, MAX_SERIAL};
+use model::states::any_state;
+use model::step::{Range, Step};
+use model::table_rules::{TableError, TableRule};
+use model::tables::{self, tables_of, PLAYERS_WORDS, STORE_WORDS};
+
+use crate::case::{Act, Case, StoreCall};
+use crate::cells::Counts;
+use crate::oracle::fields_of;
+use crate::shrink::{print, shrink};
+
+/// How much is tried, and from which seed.
+#[derive(Clone, Copy, Debug)]
+pub struct Plan {
+    /// About so many steps one by one; all else grows with them.
+    pub steps: u64,
+    /// The seed of all random cases.
+    pub seed: u64,
+}
+
+impl Plan {
+    /// What `compare` does when it is told nothing else.
+    pub const DEFAULT: Plan = Plan {
+        steps: 1_000_000,
+        seed: 1,
+    };
+
+    /// A number of cases that is `at_default` in the default plan.
+    fn share(self, at_default: u64) -> u64 {
+        (at_default * self.steps / Plan::DEFAULT.steps).max(1)
+    }
+}
+
+/// What came of one group.
+#[derive(Clone, Debug)]
+pub struct Outcome {
+    /// The group's name.
+    pub name: &'static str,
+    /// Cases tried.
+    pub cases: u64,
+    /// Steps played in them.
+    pub steps: u64,
+    /// The first failing case, shrunk and printed.
+    pub failure: Option<String>,
+}
+
+/// One group while it runs.
+struct Group<'a, L> {
+    library: &'a L,
+    counts: &'a mut Counts,
+    rng: Prng,
+    plan: Plan,
+    cases: u64,
+    failure: Option<String>,
+}
+
+impl<L: Library> Group<'_, L> {
+    /// Tries a case; true where it fails, and then the group ends.
+    fn fails(&mut self, case: Case) -> bool {
+        self.cases += 1;
+        if case.differs(self.library, self.counts).is_none() {
+            return false;
+        }
+        let (small, found) = shrink(&case, self.library);
+        self.failure = Some(print(&small, found.as_ref()));
+        true
+    }
+}
+
+type Run<L> = fn(&mut Group<L>);
+
+/// Runs all groups.
+pub fn run_all<L: Library>(library: &L, plan: Plan, counts: &mut Counts) -> Vec<Outcome> {
+    let all = groups().into_iter().enumerate();
+    all.map(|(at, group)| run_one(library, plan, counts, at, group))
+        .collect()
+}
+
+/// Runs the groups up to the first that fails, which it gives.
+pub fn run_to_failure<L: Library>(library: &L, plan: Plan, counts: &mut Counts) -> Option<Outcome> {
+    let all = groups().into_iter().enumerate();
+    all.map(|(at, group)| run_one(library, plan, counts, at, group))
+        .find(|outcome| outcome.failure.is_some())
+}
+
+fn groups<L: Library>() -> [(&'static str, Run<L>); 18] {
+    [
+        ("random sessions, step by step", sessions),
+        ("near the last serial", late),
+        ("all places taken", crowded),
+        ("steps on any tables", any_tables),
+        ("runs over random sessions", runs),
+        ("runs of full length", full_runs),
+        ("every small budget and list", budgets),
+        ("damaged sessions", damaged),
+        ("cut, over-long and random bytes", strange_bytes),
+        ("each rule broken alone", broken_rules),
+        ("single words changed", changed_words),
+        ("wrong lengths", lengths),
+        ("steps by any fields", any_fields),
+        ("records read", decoding),
+        ("records and marks written", encoding),
+        ("the session's mark", marks),
+        ("requests counted", waiting),
+        ("the store alone", store_alone),
+    ]
+}
+
+fn run_one<L: Library>(
+    library: &L,
+    plan: Plan,
+    counts: &mut Counts,
+    at: usize,
+    (name, group): (&'static str, Run<L>),
+) -> Outcome {
+    let before = counts.steps;
+    let mut state = Group {
+        library,
+        counts,
+        rng: Prng::new(plan.seed.wrapping_mul(1_000).wrapping_add(at as u64)),
+        plan,
+        cases: 0,
+        failure: None,
+    };
+    group(&mut state);
+    Outcome {
+        name,
+        cases: state.cases,
+        failure: state.failure,
+        steps: counts.steps - before,
+    }
+}
+
+/// Steps that a profile draws from a state on.
+fn drawn(rng: &mut Prng, mut state: State, length: usize) -> Vec<Step> {
+    let mut profile = Profile::draw(rng);
+    let mut steps = Vec::with_capacity(length);
+    for _ in 0..length {
+        let step = profile.next_step(rng, &state);
+        rules::step(&mut state, step);
+        steps.push(step);
+    }
+    steps
+}
+
+fn case_from(state: &State, act: Act) -> Case {
+    let (store, players) = tables_of(state);
+    Case {
+        store,
+        players,
+        act,
+    }
+}
+
+fn run_of(session: Vec<u8>, budget: u32, list: usize) -> Act {
+    Act::Run {
+        session,
+        budget,
+        list,
+    }
+}
+
+/// Random lists from fresh tables: few players, entries and serials, long delays, many requests
+/// given up, restarts and splits.
+fn sessions(group: &mut Group<impl Library>) {
+    let most = group.plan.share(700_000);
+    let mut played = 0;
+    while played < most {
+        let length = [20, 60, 200, 600][group.rng.index(4)];
+        let steps = drawn(&mut group.rng, State::fresh(), length);
+        played += length as u64;
+        if group.fails(Case::fresh(Act::Steps(steps))) {
+            return;
+        }
+    }
+}
+
+/// The same with few serials left.
+fn late(group: &mut Group<impl Library>) {
+    for _ in 0..group.plan.share(800) {
+        let mut state = State::fresh();
+        state.last_serial = MAX_SERIAL - group.rng.below(60);
+        let steps = drawn(&mut group.rng, state.clone(), 100);
+        if group.fails(case_from(&state, Act::Steps(steps))) {
+            return;
+        }
+    }
+}
+
+/// The same after about 64 reads that nothing delivers; player 0 has entry 0 in its memory.
+fn crowded(group: &mut Group<impl Library>) {
+    let range = Range::new(0, 1);
+    let (player, entry) = (0, 0);
+    let prefix = [
+        Step::Assign { player, range },
+        Step::RequestGuard { player, range },
+        Step::Deliver { serial: 2 },
+        Step::Respond { serial: 2 },
+        Step::Read { player, entry },
+        Step::Deliver { serial: 3 },
+        Step::Respond { serial: 3 },
+    ];
+    for _ in 0..group.plan.share(500) {
+        let mut state = State::fresh();
+        for step in prefix {
+            rules::step(&mut state, step);
+        }
+        let mut steps = prefix.to_vec();
+        for _ in 0..group.rng.between(60, 76) {
+            let (player, entry) = (group.rng.below(8) as u8, group.rng.below(3) as u8);
+            let step = Step::Read { player, entry };
+            rules::step(&mut state, step);
+            steps.push(step);
+        }
+        steps.extend(drawn(&mut group.rng, state, 60));
+        if group.fails(Case::fresh(Act::Steps(steps))) {
+            return;
+        }
+    }
+}
+
+/// Steps from any tables that keep the rules, also such as no list of steps leads to.
+fn any_tables(group: &mut Group<impl Library>) {
+    for _ in 0..group.plan.share(10_000) {
+        let state = any_state(&mut group.rng);
+        let mut left = state.clone();
+        let mut steps = Vec::new();
+        for _ in 0..15 {
+            let step = step_for(&mut group.rng, &left);
+            rules::step(&mut left, step);
+            steps.push(step);
+        }
+        if group.fails(case_from(&state, Act::Steps(steps))) {
+            return;
+        }
+    }
+}
+
+/// Runs from fresh and from any tables; budget and list mostly enough.
+fn runs(group: &mut Group<impl Library>) {
+    for _ in 0..group.plan.share(8_000) {
+        let state = start(&mut group.rng);
+        let length = [5, 30, 120][group.rng.index(3)];
+        let steps = drawn(&mut group.rng, state.clone(), length);
+        let list = 3 * length + group.rng.index(8);
+        let budget = length as u32 + group.rng.below(4);
+        let act = run_of(codec::session(&steps), budget, list);
+        if group.fails(case_from(&state, act)) {
+            return;
+        }
+    }
+}
+
+/// Fresh tables, or any that keep the rules.
+fn start(rng: &mut Prng) -> State {
+    if rng.chance(60) {
+        State::fresh()
+    } else {
+        any_state(rng)
+    }
+}
+
+/// Sessions of as many bytes as one may have: up to 5,460 records.
+fn full_runs(group: &mut Group<impl Library>) {
+    for round in 0..group.plan.share(40) {
+        let mut bytes = MARK.to_vec();
+        if round % 2 == 0 {
+            let mut profile = Profile::draw(&mut group.rng);
+            let mut state = State::fresh();
+            loop {
+                let step = profile.next_step(&mut group.rng, &state);
+                let record = codec::record(step);
+                if bytes.len() + record.len() > MAX_SESSION {
+                    break;
+                }
+                rules::step(&mut state, step);
+                bytes.extend(record);
+            }
+        } else {
+            while bytes.len() + 3 <= MAX_SESSION {
+                let step = match group.rng.below(4) {
+                    0 => Step::Split {
+                        entry: group.rng.below(5) as u8,
+                    },
+                    1 => Step::Merge {
+                        entry: group.rng.below(5) as u8,
+                    },
+                    2 => Step::RestartTablet {
+                        entry: group.rng.below(256) as u8,
+                    },
+                    _ => Step::RestartPlayer {
+                        player: group.rng.below(9) as u8,
+                    },
+                };
+                bytes.extend(codec::record(step));
+            }
+        }
+        if group.fails(Case::fresh(run_of(bytes, 16_384, 3 * 5_460))) {
+            return;
+        }
+    }
+}
+
+/// Every budget and list up to more than a session needs, at every cut of the session.
+fn budgets(group: &mut Group<impl Library>) {
+    for _ in 0..group.plan.share(4) {
+        let steps = drawn(&mut group.rng, State::fresh(), 3);
+        let session = codec::session(&steps);
+        for cut in 0..=session.len() {
+            for budget in 0..=4 {
+                for list in 0..=13 {
+                    let act = run_of(session[..cut].to_vec(), budget, list);
+                    group.counts.damaged += u64::from(cut < session.len());
+                    if group.fails(Case::fresh(act)) {
+                        return;
+                    }
+                }
+            }
+        }
+    }
+}
+
+/// Sessions with bytes changed, put in, removed or cut off.
+fn damaged(group: &mut Group<impl Library>) {
+    for _ in 0..group.plan.share(50_000) {
+        let state = start(&mut group.rng);
+        let length = [3, 10, 30][group.rng.index(3)];
+        let mut bytes = codec::session(&drawn(&mut group.rng, state.clone(), length));
+        damage(&mut group.rng, &mut bytes);
+        let list = if group.rng.chance(90) {
+            100
+        } else {
+            group.rng.index(20)
+        };
+        let budget = if group.rng.chance(90) {
+            100
+        } else {
+            group.rng.below(10)
+        };
+        group.counts.damaged += 1;
+        if group.fails(case_from(&state, run_of(bytes, budget, list))) {
+            return;
+        }
+    }
+}
+
+/// Sessions cut at every byte, longer than one may be, with another mark, and of random bytes.
+fn strange_bytes(group: &mut Group<impl Library>) {
+    for _ in 0..group.plan.share(30) {
+        let session = codec::session(&drawn(&mut group.rng, State::fresh(), 20));
+        for cut in 0..session.len() {
+            group.counts.damaged += 1;
+            if group.fails(Case::fresh(run_of(session[..cut].to_vec(), 100, 60))) {
+                return;
+            }
+        }
+    }
+    for length in [
+        16_383, 16_384, 16_385, 16_386, 20_000, 65_536, 65_540, 70_000,
+    ] {
+        for mark in [*b"RSL1", *b"RSL2"] {
+            let mut bytes = mark.to_vec();
+            while bytes.len() < length {
+                bytes.extend([0x03, 0x0D, 0x00]);
+            }
+            bytes.truncate(length);
+            group.counts.damaged += 1;
+            if group.fails(Case::fresh(run_of(bytes, 16_384, 3 * 5_460))) {
+                return;
+            }
+        }
+    }
+    for _ in 0..group.plan.share(10_000) {
+        let length = group.rng.index(60);
+        let marked = group.rng.chance(90);
+        let mut bytes = if marked { MARK.to_vec() } else { Vec::new() };
+        for _ in 0..length {
+            // Small bytes are maps and kinds more often.
+            let bound = [16, 64, 256][group.rng.index(3)];
+            bytes.push(group.rng.below(bound) as u8);
+        }
+        group.counts.damaged += 1;
+        if group.fails(Case::fresh(run_of(bytes, 100, 60))) {
+            return;
+        }
+    }
+}
+
+/// A call on both tables.
+fn any_act(rng: &mut Prng) -> Act {
+    match rng.below(4) {
+        0 => Act::Check,
+        1 => run_of(codec::session(&[any_step(rng), any_step(rng)]), 9, 9),
+        _ => Act::Steps(vec![any_step(rng)]),
+    }
+}
+
+/// Tables that break one rule: 22 from every call, and nothing changed.
+fn broken_rules(group: &mut Group<impl Library>) {
+    for _ in 0..group.plan.share(40) {
+        for rule in TableRule::ALL {
+            let (store, players) = break_rule(&mut group.rng, rule);
+            if tables::decode(&store, &players) == Err(TableError::Rule(rule)) {
+                group.counts.note_rule(rule);
+            }
+            let acts = [
+                Act::Check,
+                any_act(&mut group.rng),
+                Act::Store(StoreCall::Check),
+                Act::Store(any_store_call(&mut group.rng)),
+            ];
+            for act in acts {
+                let case = Case {
+                    store: store.clone(),
+                    players: players.clone(),
+                    act,
+                };
+                if group.fails(case) {
+                    return;
+                }
+            }
+        }
+    }
+}
+
+/// Tables that keep the rules with one or two words changed to anything: some keep them still, and
+/// all can be made fresh.
+fn changed_words(group: &mut Group<impl Library>) {
+    for _ in 0..group.plan.share(6_000) {
+        let state = any_state(&mut group.rng);
+        let (mut store, mut players) = tables_of(&state);
+        for _ in 0..group.rng.between(1, 2) {
+            let word = match group.rng.below(4) {
+                0 => group.rng.below(300),
+                1 => (state.last_serial + group.rng.below(3)).saturating_sub(1),
+                2 => MAX_SERIAL + group.rng.below(2),
+                _ => group.rng.word(),
+            };
+            match group.rng.below(3) {
+                0 => store[group.rng.index(STORE_WORDS)] = word,
+                1 => players[group.rng.index(PLAYERS_WORDS)] = word,
+                _ => players[tables::REQUESTS + group.rng.index(768)] = word,
+            }
+        }
+        let last = (state.last_serial + group.rng.below(3)).saturating_sub(1);
+        let acts = [
+            Act::Check,
+            Act::Fresh,
+            any_act(&mut group.rng),
+            Act::Store(StoreCall::CheckAt { last }),
+            Act::Store(StoreCall::Fresh),
+            Act::Store(any_store_call(&mut group.rng)),
+        ];
+        for act in acts {
+            let case = Case {
+                store: store.clone(),
+                players: players.clone(),
+                act,
+            };
+            if group.fails(case) {
+                return;
+            }
+        }
+    }
+}
+
+/// Tables of other lengths: 21 from every call, and nothing changed.
+fn lengths(group: &mut Group<impl Library>) {
+    let stores = [0, 1, 256, 1_279, STORE_WORDS, 1_281, 2_560, PLAYERS_WORDS];
+    let players = [0, 1, 1_280, 9_472, PLAYERS_WORDS, 9_474, 20_000];
+    for store_words in stores {
+        for players_words in players {
+            for kind in 1..=13 {
+                let (mut store, mut players) = tables::fresh_tables();
+                store.resize(store_words, 7);
+                players.resize(players_words, 7);
+                let step = loop {
+                    let step = any_step(&mut group.rng);
+                    if step.kind() == kind {
+                        break step;
+                    }
+                };
+                let acts = [
+                    Act::Fresh,
+                    Act::Check,
+                    Act::Steps(vec![step]),
+                    run_of(codec::session(&[step]), 9, 9),
+                    run_of(vec![0], 9, 9),
+                    Act::Store(any_store_call(&mut group.rng)),
+                    Act::Store(StoreCall::Fresh),
+                ];
+                for act in acts {
+                    let case = Case {
+                        store: store.clone(),
+                        players: players.clone(),
+                        act,
+                    };
+                    if group.fails(case) {
+                        return;
+                    }
+                }
+            }
+        }
+    }
+}
+
+/// Fields of any kind, also such as the kind lacks.
+fn fields(rng: &mut Prng) -> Fields {
+    let mut fields = fields_of(any_step(rng));
+    if rng.chance(30) {
+        fields.kind = [0, 14, 15, 255, rng.below(256) as u8][rng.index(5)];
+    }
+    match rng.below(8) {
+        0 => fields.player = rng.below(3) as u8,
+        1 => fields.entry = rng.below(3) as u8,
+        2 => fields.high = [0, 1, 256, 0xFFFF][rng.index(4)],
+        3 => fields.value = rng.word(),
+        4 => fields.serial = rng.word(),
+        _ => {}
+    }
+    fields
+}
+
+/// Steps by fields: 26 and 27, also on tables that would be refused themselves.
+fn any_fields(group: &mut Group<impl Library>) {
+    for _ in 0..group.plan.share(6_000) {
+        let state = start(&mut group.rng);
+        let mut case = case_from(&state, Act::Fields(fields(&mut group.rng)));
+        match group.rng.below(10) {
+            0 => case.store.truncate(9),
+            1 => case.players[0] = MAX_SERIAL + 1,
+            _ => {}
+        }
+        if group.fails(case) {
+            return;
+        }
+    }
+}
+
+fn no_tables(act: Act) -> Case {
+    Case {
+        store: Vec::new(),
+        players: Vec::new(),
+        act,
+    }
+}
+
+/// Records: all of up to two bytes; all maps with all kinds near 1 to 13, at each length up to two
+/// more than the map's, with bytes of every sort behind.
+fn decoding(group: &mut Group<impl Library>) {
+    let mut parts: Vec<Vec<u8>> = vec![vec![]];
+    for one in 0..=255 {
+        parts.push(vec![one]);
+        for two in 0..=255 {
+            parts.push(vec![one, two]);
+        }
+    }
+    for map in 0..64u8 {
+        for kind in (0..=16).chain([0x80, 0xFF]) {
+            for length in 3..=RECORD_LENGTHS[usize::from(map)] + 2 {
+                for filled in [Some(0u8), Some(0xFF), None] {
+                    let mut part = vec![map, kind];
+                    for _ in 2..length {
+                        part.push(filled.unwrap_or_else(|| group.rng.below(256) as u8));
+                    }
+                    parts.push(part);
+                }
+            }
+        }
+    }
+    for _ in 0..group.plan.share(20_000) {
+        let kind = group.rng.between(1, 13) as u8;
+        let mut part = vec![map_of(kind).unwrap_or(0), kind];
+        for _ in 0..group.rng.index(12) {
+            part.push(group.rng.below(256) as u8);
+        }
+        parts.push(part);
+    }
+    for part in parts {
+        if group.fails(no_tables(Act::Decode(part))) {
+            return;
+        }
+    }
+}
+
+/// Records of all kinds and the mark, to buffers of every small size; what is behind stays.
+fn encoding(group: &mut Group<impl Library>) {
+    for _ in 0..group.plan.share(4_000) {
+        let fields = fields(&mut group.rng);
+        for bytes in (0..=10).chain([64]) {
+            if group.fails(no_tables(Act::Encode(fields, bytes))) {
+                return;
+            }
+        }
+    }
+    for bytes in 0..=70 {
+        if group.fails(no_tables(Act::PutMark(bytes))) {
+            return;
+        }
+    }
+}
+
+/// The mark with each byte changed to each other, and cut.
+fn marks(group: &mut Group<impl Library>) {
+    for length in 0..=6 {
+        for at in 0..4 {
+            for byte in 0..=255 {
+                let mut session = MARK.to_vec();
+                session[at] = byte;
+                session.resize(length, 0x41);
+                if group.fails(no_tables(Act::Marked(session))) {
+                    return;
+                }
+            }
+        }
+    }
+}
+
+/// Lists of requests of several lengths with any contents.
+fn waiting(group: &mut Group<impl Library>) {
+    for _ in 0..group.plan.share(4_000) {
+        let places = [64, 64, 64, 64, 0, 1, 63, 65, 128][group.rng.index(9)];
+        let used = group.rng.below(100);
+        let rng = &mut group.rng;
+        let list = (0..places)
+            .map(|_| Request {
+                serial: if rng.chance(used) { rng.word() } else { 0 },
+                player: rng.below(10) as u8,
+                kind: rng.below(7) as u8,
+                low: rng.below(256) as u8,
+                high: rng.below(300) as u16,
+                value: rng.word(),
+                guard: rng.word(),
+                overlapped: rng.chance(50),
+                delivered: rng.chance(50),
+                abandoned: rng.chance(30),
+                first: rng.word(),
+                second: rng.word(),
+            })
+            .collect();
+        let player = [rng.below(8) as u8, 7, 8, 255, rng.below(256) as u8][rng.index(5)];
+        if group.fails(no_tables(Act::Waiting(list, player))) {
+            return;
+        }
+    }
+}
+
+/// A number that is a serial more often than not.
+fn serial(rng: &mut Prng) -> u32 {
+    match rng.below(8) {
+        0 => 0,
+        1 => MAX_SERIAL,
+        2 => MAX_SERIAL + 1,
+        3 => rng.word(),
+        _ => rng.between(1, 100),
+    }
+}
+
+fn any_store_call(rng: &mut Prng) -> StoreCall {
+    let entry = if rng.chance(50) {
+        rng.below(3)
+    } else {
+        rng.below(256)
+    } as u8;
+    match rng.below(9) {
+        0 => StoreCall::Check,
+        1 => StoreCall::Read { entry },
+        2 => StoreCall::Write {
+            entry,
+            value: rng.word(),
+            serial: serial(rng),
+            guard: serial(rng),
+        },
+        3 | 4 => StoreCall::SetGuard {
+            low: entry,
+            high: [u32::from(entry) + 1, 256, 257, rng.below(300)][rng.index(4)] as u16,
+            serial: serial(rng),
+        },
+        5 => StoreCall::Split { entry },
+        6 => StoreCall::Merge { entry },
+        7 => StoreCall::Restart { entry },
+        _ => StoreCall::CheckAt {
+            last: [0, 1, MAX_SERIAL, MAX_SERIAL + 1, rng.word()][rng.index(5)],
+        },
+    }
+}
+
+/// The store used alone: any call on any table. Writes carry the entry's guard in half of the cases.
+fn store_alone(group: &mut Group<impl Library>) {
+    for _ in 0..group.plan.share(20_000) {
+        let state = any_state(&mut group.rng);
+        let (store, _) = tables_of(&state);
+        let mut call = any_store_call(&mut group.rng);
+        if let StoreCall::Write { entry, guard, .. } = &mut call {
+            if group.rng.chance(50) {
+                *guard = state.store.guards[usize::from(*entry)];
+            }
+        }
+        let case = Case {
+            store,
+            players: Vec::new(),
+            act: Act::Store(call),
+        };
+        if group.fails(case) {
+            return;
+        }
+    }
+}

@@ -1,0 +1,505 @@
+//! Libraries that are wrong in one point each. They show what the comparison sees: every one of them
+//! must be caught, and the case it is caught on shrunk.
+//!
+//! Three sorts: the port behind a call that is wrong in a point ([`Point`]), the port with a test of
+//! the tables that misses one rule, and the model with one of its faults.
+
+use calls::{Decoded, Fields, Library, Reply, Report, Request};
+use model::faults::Fault;
+use model::table_rules::{TableError, TableRule};
+use model::tables;
+use port::Port;
+
+use crate::cells::Counts;
+use crate::oracle::Model;
+use crate::suites::{run_to_failure, Outcome, Plan};
+
+/// What is wrong.
+#[derive(Clone, Copy, Debug, PartialEq, Eq)]
+pub enum Point {
+    /// "a store that refuses each step"
+    RefusesEachStep,
+    /// "one that replies 1 to all"
+    RepliesOneToAll,
+    /// "one that replies rightly and sets nothing"
+    SetsNothing,
+    /// "a run that takes the first record and echoes its reply"
+    RunEchoesFirst,
+    /// "a run with an invented record count"
+    RunInventsCount,
+    /// "one reporting 9 with budget and list left"
+    RunSpentEarly,
+    /// A run takes one record more than its budget.
+    RunOverBudget,
+    /// A refused run puts its number into the list.
+    RefusedRunWritesList,
+    /// List places not filled become 0.
+    RunClearsList,
+    /// The mark is tested before the length.
+    RunMarkFirst,
+    /// A run ends at a refused step.
+    RunStopsAtRefusedStep,
+    /// The place is that of the last record taken, not the one after it.
+    RunPlaceBefore,
+    /// A run does not test the tables' rules.
+    RunTablesUntested,
+    /// A players' table of the wrong length is 22.
+    PlayersLengthAsRule,
+    /// Fresh leaves the last word of the players' table.
+    FreshMissesLastWord,
+    /// A refused step takes a serial.
+    RefusedTakesSerial,
+    /// 33 with one place left.
+    OnePlaceFewer,
+    /// 34 with one serial left.
+    OneSerialFewer,
+    /// A read from memory is refused where no place is left.
+    CacheReadNeedsPlace,
+    /// 34 before 33.
+    SerialsBeforePlaces,
+    /// A request that leaves last stays in the words of its place, but for its serial.
+    LeavesWords,
+    /// A new write is overlapped by a pending read too.
+    ReadOverlapsWrite,
+    /// Guards of equal neighbouring intervals are not joined at a tablet restart.
+    NeighboursNotJoined,
+    /// Fields that a kind lacks are passed over.
+    StrangeFieldsTaken,
+    /// Bits 6 and 7 of a map are passed over.
+    HighBitsIgnored,
+    /// The kind is tested before the length.
+    KindBeforeLength,
+    /// A kind's own map is not tested.
+    AnyMapTaken,
+    /// The high byte of a range's high is lost.
+    HighCut,
+    /// A record is written with a zero behind it.
+    EncodesZeroBehind,
+    /// A buffer that is too short gets the bytes that fit.
+    EncodesWhatFits,
+    /// The mark's last byte is not tested.
+    MarkThreeBytes,
+    /// The mark needs a byte more than it has.
+    MarkNeedsFive,
+    /// Requests that are given up are counted.
+    CountsAbandoned,
+    /// Unused places are counted.
+    CountsUnused,
+    /// The player is tested before the list's length.
+    PlayerBeforePlaces,
+    /// The store used alone takes serial 0.
+    StoreSerialZero,
+    /// The store used alone takes serials above 4,000,000.
+    StoreSerialAbove,
+    /// A guard ends an entry early at 256.
+    StoreGuardEndsEarly,
+    /// 35 before 28.
+    StoreBoundaryFirst,
+    /// A restart takes the next tablet too.
+    StoreRestartsTwo,
+}
+
+impl Point {
+    /// Every point.
+    pub const ALL: [Point; 40] = [
+        Point::RefusesEachStep,
+        Point::RepliesOneToAll,
+        Point::SetsNothing,
+        Point::RunEchoesFirst,
+        Point::RunInventsCount,
+        Point::RunSpentEarly,
+        Point::RunOverBudget,
+        Point::RefusedRunWritesList,
+        Point::RunClearsList,
+        Point::RunMarkFirst,
+        Point::RunStopsAtRefusedStep,
+        Point::RunPlaceBefore,
+        Point::RunTablesUntested,
+        Point::PlayersLengthAsRule,
+        Point::FreshMissesLastWord,
+        Point::RefusedTakesSerial,
+        Point::OnePlaceFewer,
+        Point::OneSerialFewer,
+        Point::CacheReadNeedsPlace,
+        Point::SerialsBeforePlaces,
+        Point::LeavesWords,
+        Point::ReadOverlapsWrite,
+        Point::NeighboursNotJoined,
+        Point::StrangeFieldsTaken,
+        Point::HighBitsIgnored,
+        Point::KindBeforeLength,
+        Point::AnyMapTaken,
+        Point::HighCut,
+        Point::EncodesZeroBehind,
+        Point::EncodesWhatFits,
+        Point::MarkThreeBytes,
+        Point::MarkNeedsFive,
+        Point::CountsAbandoned,
+        Point::CountsUnused,
+        Point::PlayerBeforePlaces,
+        Point::StoreSerialZero,
+        Point::StoreSerialAbove,
+        Point::StoreGuardEndsEarly,
+        Point::StoreBoundaryFirst,
+        Point::StoreRestartsTwo,
+    ];
+}
+
+/// The port, wrong in a point, or with a test of the tables that misses a rule.
+#[derive(Clone, Copy, Debug)]
+pub enum Wrong {
+    /// Wrong in a point.
+    In(Point),
+    /// The test of the tables lets a table by that breaks this rule.
+    Misses(TableRule),
+}
+
+impl Wrong {
+    fn is(self, point: Point) -> bool {
+        matches!(self, Wrong::In(own) if own == point)
+    }
+
+    /// Whether the tables break the rule that is missed.
+    fn lets_by(self, store: &[u32], players: &[u32]) -> bool {
+        matches!((self, tables::decode(store, players)),
+            (Wrong::Misses(rule), Err(TableError::Rule(broken))) if broken == rule)
+    }
+}
+
+fn refused(code: u32) -> Reply {
+    Reply {
+        code,
+        ..Reply::default()
+    }
+}
+
+const FULL: usize = tables::REQUESTS + 63 * 12;
+
+/// The number of requests of a players' table.
+fn used(players: &[u32]) -> usize {
+    players[tables::REQUESTS..]
+        .chunks(12)
+        .take_while(|place| place[0] != 0)
+        .count()
+}
+
+impl Library for Wrong {
+    fn fresh(&self, store: &mut [u32], players: &mut [u32]) -> Reply {
+        let kept = players.last().copied();
+        let reply = Port.fresh(store, players);
+        if let (true, Some(kept), Some(last)) = (
+            self.is(Point::FreshMissesLastWord),
+            kept,
+            players.last_mut(),
+        ) {
+            *last = kept;
+        }
+        reply
+    }
+
+    fn check(&self, store: &[u32], players: &[u32]) -> Reply {
+        let reply = Port.check(store, players);
+        if self.lets_by(store, players) {
+            return refused(0);
+        }
+        if reply.code == 21 && store.len() == 1_280 && self.is(Point::PlayersLengthAsRule) {
+            return refused(22);
+        }
+        reply
+    }
+
+    fn step(&self, store: &mut [u32], players: &mut [u32], mut step: Fields) -> Reply {
+        if self.is(Point::StrangeFieldsTaken) && step.kind == 13 {
+            step.serial = 0;
+        }
+        let before = (store.to_vec(), players.to_vec());
+        let reply = Port.step(store, players, step);
+        let Wrong::In(point) = *self else {
+            return reply;
+        };
+        if reply.code == 21 || reply.code == 22 || reply.code == 26 || reply.code == 27 {
+            return reply;
+        }
+        let undone = |store: &mut [u32], players: &mut [u32], reply: Reply| {
+            store.copy_from_slice(&before.0);
+            players.copy_from_slice(&before.1);
+            reply
+        };
+        let last = before.1[0];
+        let full = before.1[FULL] != 0;
+        match point {
+            Point::RefusesEachStep => undone(store, players, refused(32)),
+            Point::RepliesOneToAll => undone(
+                store,
+                players,
+                Reply {
+                    code: 1,
+                    a: last + 1,
+                    b: 0,
+                },
+            ),
+            Point::SetsNothing => undone(store, players, reply),
+            Point::RefusedTakesSerial if reply.code >= 28 => {
+                players[0] += 1;
+                reply
+            }
+            Point::OnePlaceFewer if reply.code == 1 && players[FULL] != 0 && !full => {
+                undone(store, players, refused(33))
+            }
+            Point::OneSerialFewer if reply.code == 1 && players[0] == 4_000_000 => {
+                undone(store, players, refused(34))
+            }
+            Point::CacheReadNeedsPlace if reply.code == 2 && full => refused(33),
+            Point::SerialsBeforePlaces if reply.code == 33 && last == 4_000_000 => refused(34),
+            Point::LeavesWords if used(players) < used(&before.1) => {
+                let at = tables::REQUESTS + 12 * used(players) + 1;
+                players[at] = before.1[at];
+                reply
+            }
+            Point::ReadOverlapsWrite if reply.code == 1 && step.kind == 5 => {
+                let places = before.1[tables::REQUESTS..].chunks(12);
+                let crosses = places.clone().any(|place| {
+                    place[0] != 0
+                        && place[1] == u32::from(step.player)
+                        && place[2] == 4
+                        && place[3] == u32::from(step.entry)
+                        && place[9] == 0
+                });
+                if crosses {
+                    players[tables::REQUESTS + 12 * (used(players) - 1) + 7] = 1;
+                }
+                reply
+            }
+            Point::NeighboursNotJoined if step.kind == 12 => {
+                let (starts, guards) = (tables::INTERVAL_STARTS, tables::INTERVAL_GUARDS);
+                if before.0[starts + 1] != 0 && store[starts + 1] == 0 && store[guards] == 0 {
+                    store[starts + 1] = before.0[starts + 1];
+                }
+                reply
+            }
+            _ => reply,
+        }
+    }
+
+    fn run(
+        &self,
+        store: &mut [u32],
+        players: &mut [u32],
+        session: &[u8],
+        mut budget: u32,
+        replies: &mut [u32],
+    ) -> Report {
+        let Wrong::In(point) = *self else {
+            return Port.run(store, players, session, budget, replies);
+        };
+        match point {
+            Point::RunOverBudget => budget = budget.saturating_add(1),
+            Point::RunSpentEarly => budget = budget.saturating_sub(1),
+            Point::RunEchoesFirst => {
+                let report = Port.run(store, players, session, budget.min(1), replies);
+                for at in 3..replies.len() {
+                    replies[at] = replies[at - 3];
+                }
+                return report;
+            }
+            Point::RunMarkFirst
+                if Port.check(store, players).code == 0 && !Port.marked(session) =>
+            {
+                return Report {
+                    why: 23,
+                    ..Report::default()
+                };
+            }
+            Point::RunTablesUntested if Port.check(store, players).code == 22 => {
+                return Report {
+                    why: 0,
+                    records: 0,
+                    place: 4,
+                };
+            }
+            _ => {}
+        }
+        let mut report = Port.run(store, players, session, budget, replies);
+        let refused_run = report.place == 0;
+        let taken = report.records as usize;
+        match point {
+            Point::RunInventsCount if report.why == 0 => report.records = session.len() as u32 / 4,
+            Point::RefusedRunWritesList if refused_run => {
+                replies
+                    .iter_mut()
+                    .take(1)
+                    .for_each(|word| *word = report.why);
+            }
+            Point::RunClearsList => replies
+                .iter_mut()
+                .skip(3 * taken)
+                .for_each(|word| *word = 0),
+            Point::RunPlaceBefore if taken > 0 => report.place -= 1,
+            Point::RunStopsAtRefusedStep => {
+                let refused = replies.chunks_exact(3).take(taken).position(|r| r[0] >= 28);
+                if let Some(at) = refused {
+                    report.records = at as u32 + 1;
+                    report.why = 9;
+                }
+            }
+            _ => {}
+        }
+        report
+    }
+
+    fn decode(&self, part: &[u8]) -> Decoded {
+        let mut part = part.to_vec();
+        if self.is(Point::HighBitsIgnored) {
+            part.iter_mut().take(1).for_each(|map| *map &= 0x3F);
+        }
+        let mut decoded = Port.decode(&part);
+        let kind = part.get(1).copied().unwrap_or(1);
+        if self.is(Point::KindBeforeLength) && decoded.code == 24 && kind == 14 {
+            decoded.code = 26;
+        }
+        if self.is(Point::AnyMapTaken) && decoded.code == 27 && part[0] % 2 == 1 {
+            decoded.code = 0;
+        }
+        if self.is(Point::HighCut) {
+            decoded.high %= 256;
+        }
+        decoded
+    }
+
+    fn encode(&self, step: Fields, out: &mut [u8]) -> Reply {
+        let reply = Port.encode(step, out);
+        if self.is(Point::EncodesZeroBehind) && reply.code == 0 {
+            let behind = out.iter_mut().skip(reply.a as usize);
+            behind.take(1).for_each(|byte| *byte = 0);
+        }
+        if self.is(Point::EncodesWhatFits) && reply.code == 36 {
+            out.iter_mut().take(1).for_each(|byte| *byte = 0x0F);
+        }
+        reply
+    }
+
+    fn put_mark(&self, out: &mut [u8]) -> Reply {
+        if self.is(Point::MarkNeedsFive) && out.len() == 4 {
+            return refused(36);
+        }
+        Port.put_mark(out)
+    }
+
+    fn marked(&self, session: &[u8]) -> bool {
+        if self.is(Point::MarkThreeBytes) && session.len() > 3 {
+            return session.starts_with(b"RSL");
+        }
+        Port.marked(session)
+    }
+
+    fn waiting(&self, list: &[Request], player: u8) -> Reply {
+        if self.is(Point::PlayerBeforePlaces) && player > 7 {
+            return refused(28);
+        }
+        let mut list = list.to_vec();
+        for request in &mut list {
+            request.abandoned &= !self.is(Point::CountsAbandoned);
+            request.serial |= u32::from(self.is(Point::CountsUnused));
+        }
+        Port.waiting(&list, player)
+    }
+
+    fn store_fresh(&self, store: &mut [u32]) -> Reply {
+        Port.store_fresh(store)
+    }
+
+    fn store_check(&self, store: &[u32]) -> Reply {
+        Port.store_check(store)
+    }
+
+    fn store_check_at(&self, store: &[u32], last: u32) -> Reply {
+        Port.store_check_at(store, last)
+    }
+
+    fn store_read(&self, store: &[u32], entry: u8) -> Reply {
+        Port.store_read(store, entry)
+    }
+
+    fn store_write(
+        &self,
+        store: &mut [u32],
+        entry: u8,
+        value: u32,
+        mut serial: u32,
+        guard: u32,
+    ) -> Reply {
+        if self.is(Point::StoreSerialAbove) {
+            serial = serial.min(4_000_000);
+        }
+        Port.store_write(store, entry, value, serial, guard)
+    }
+
+    fn store_set_guard(&self, store: &mut [u32], low: u8, mut high: u16, mut serial: u32) -> Reply {
+        if self.is(Point::StoreSerialZero) {
+            serial = serial.max(1);
+        }
+        if self.is(Point::StoreGuardEndsEarly) && high == 256 && low < 255 {
+            high = 255;
+        }
+        Port.store_set_guard(store, low, high, serial)
+    }
+
+    fn store_split(&self, store: &mut [u32], entry: u8) -> Reply {
+        let reply = Port.store_split(store, entry);
+        if self.is(Point::StoreBoundaryFirst) && reply.code == 28 {
+            return refused(35);
+        }
+        reply
+    }
+
+    fn store_merge(&self, store: &mut [u32], entry: u8) -> Reply {
+        Port.store_merge(store, entry)
+    }
+
+    fn store_restart(&self, store: &mut [u32], entry: u8) -> Reply {
+        let reply = Port.store_restart(store, entry);
+        if self.is(Point::StoreRestartsTwo) && reply.code == 0 {
+            let next = (usize::from(entry) + 1..256).find(|&at| store[at] == 1);
+            if let Some(next) = next {
+                return Port.store_restart(store, next as u8);
+            }
+        }
+        reply
+    }
+}
+
+/// A wrong library, and what came of comparing it.
+pub struct Tried {
+    /// What is wrong.
+    pub name: String,
+    /// The group that caught it, with the smallest case, if one did.
+    pub caught: Option<Outcome>,
+}
+
+/// Compares every wrong library until a group catches it.
+pub fn try_all(plan: Plan, mut tell: impl FnMut(Tried)) {
+    let mut counts = Counts::default();
+    for point in Point::ALL {
+        tell(Tried {
+            name: format!("{point:?}"),
+            caught: run_to_failure(&Wrong::In(point), plan, &mut counts),
+        });
+    }
+    // The group that breaks each rule alone sees these at once.
+    let short = Plan {
+        steps: plan.steps / 20,
+        ..plan
+    };
+    for rule in TableRule::ALL {
+        tell(Tried {
+            name: format!("the test misses {rule:?}"),
+            caught: run_to_failure(&Wrong::Misses(rule), short, &mut counts),
+        });
+    }
+    for fault in Fault::ALL {
+        tell(Tried {
+            name: format!("the model with {fault:?}"),
+            caught: run_to_failure(&Model(fault), plan, &mut counts),
+        });
+    }
+}

@@ -1,0 +1,41 @@
+//! The port agrees with the model, and the comparison sees every wrong library.
+
+use compare::cells::{Call, Counts};
+use compare::suites::{run_all, Plan};
+use compare::wrong::try_all;
+use port::Port;
+
+/// A tenth of what the program `compare` does.
+#[test]
+fn port_agrees() {
+    let plan = Plan {
+        steps: 100_000,
+        seed: 3,
+    };
+    let mut counts = Counts::default();
+    for outcome in run_all(&Port, plan, &mut counts) {
+        assert_eq!(outcome.failure, None, "{}", outcome.name);
+        assert!(outcome.cases > 0);
+    }
+    let (_, wrong, _) = counts.table();
+    assert!(wrong.is_empty(), "{wrong:?}");
+    assert!(counts.seen(Call::Step(4), 2) > 100);
+}
+
+/// Every library that is wrong in one point is caught, and the case is printed.
+#[test]
+fn wrong_libraries_are_caught() {
+    let plan = Plan {
+        steps: 20_000,
+        seed: 1,
+    };
+    let mut tried = 0;
+    try_all(plan, |library| {
+        let outcome = library.caught;
+        let outcome = outcome.unwrap_or_else(|| panic!("{} is not caught", library.name));
+        let text = outcome.failure.unwrap_or_default();
+        assert!(text.contains("library"), "{}: {text}", library.name);
+        tried += 1;
+    });
+    assert_eq!(tried, 104);
+}
