@@ -1,0 +1,267 @@
+//! Times of the library beside the model and the port, measured in one run. See
+//! `docs/PERFORMANCE.md`; `tools/bench` adds instruction counts.
+
+mod stack;
+mod works;
+
+use std::hint::black_box;
+use std::process::ExitCode;
+use std::time::Instant;
+
+use calls::Library;
+use compare::oracle::RIGHT;
+use model::tables::{PLAYERS_WORDS, STORE_WORDS};
+use port::Port;
+
+use works::Work;
+
+/// What is measured, the library first where it is linked.
+fn libraries() -> Vec<(&'static str, &'static dyn Library)> {
+    vec![
+        #[cfg(feature = "library")]
+        ("library", &proved::Proved),
+        ("model", &RIGHT),
+        ("port", &Port),
+    ]
+}
+
+fn works() -> Vec<Work> {
+    let mut works = works::kinds();
+    works.extend(works::sessions());
+    works.extend(works::calls());
+    works
+}
+
+/// How long a batch of a work is at least, in nanoseconds.
+const BATCH: f64 = 300_000.0;
+/// Repetitions of each, taken in turn.
+const REPETITIONS: usize = 41;
+
+/// Nanoseconds of the work, the best of a batch: what interrupts it is not counted, nor is restoring
+/// the tables.
+fn once(work: &Work, library: &dyn Library, empty: bool) -> f64 {
+    let mut lent = work.lent();
+    let mut spent = 0.0;
+    let mut best = f64::MAX;
+    while spent < BATCH {
+        work.restore(&mut lent);
+        let begun = Instant::now();
+        black_box(work.run(black_box(library), black_box(&mut lent), empty));
+        let took = begun.elapsed().as_nanos() as f64;
+        spent += took;
+        best = best.min(took);
+    }
+    best
+}
+
+fn median(mut figures: Vec<f64>) -> f64 {
+    figures.sort_by(f64::total_cmp);
+    figures[figures.len() / 2]
+}
+
+/// Medians over repetitions that are taken in turn, so that what else the machine does hits all
+/// alike.
+fn medians(work: &Work) -> Vec<f64> {
+    let libraries = libraries();
+    let mut figures: Vec<Vec<f64>> = vec![Vec::new(); libraries.len()];
+    for _ in 0..REPETITIONS {
+        for ((_, library), figures) in libraries.iter().zip(&mut figures) {
+            let whole = once(work, *library, false);
+            let empty = match work.less_empty() {
+                true => once(work, *library, true),
+                false => 0.0,
+            };
+            figures.push((whole - empty) / f64::from(work.each));
+        }
+    }
+    figures.into_iter().map(median).collect()
+}
+
+/// One line: the figures, and the first one's ratio to each other.
+fn line(name: &str, figures: &[f64]) {
+    print!("{name:<40}");
+    for figure in figures {
+        print!("{figure:>11.1}");
+    }
+    for other in &figures[1..] {
+        print!("{:>11.2}", figures[0] / other);
+    }
+    println!();
+}
+
+fn header(title: &str, ratios: bool) {
+    print!("{title:<40}");
+    for (name, _) in libraries() {
+        print!("{name:>11}");
+    }
+    for (name, _) in libraries().iter().skip(1).filter(|_| ratios) {
+        print!("{:>11}", format!("/ {name}"));
+    }
+    println!();
+}
+
+/// One pass over the words of both tables, with an exit at the first that is above a limit.
+#[inline(never)]
+fn plain_pass(store: &[u32], players: &[u32], limit: u32) -> bool {
+    let below = |words: &[u32]| words.iter().all(|&word| word <= limit);
+    below(store) && below(players)
+}
+
+/// One pass over the words that adds them up, which the compiler may do eight at a time.
+#[inline(never)]
+fn adding_pass(store: &[u32], players: &[u32]) -> u32 {
+    let sum = |words: &[u32]| words.iter().fold(0u32, |sum, &word| sum.wrapping_add(word));
+    sum(store).wrapping_add(sum(players))
+}
+
+/// The test of the tables beside passes over the same words.
+fn passes() {
+    println!();
+    println!(
+        "test of the tables beside one pass over the same {} words, ns",
+        STORE_WORDS + PLAYERS_WORDS
+    );
+    for work in works::calls()
+        .iter()
+        .filter(|work| matches!(work.act, works::Act::Check))
+    {
+        let (store, players) = work.tables();
+        let mut lent = work.lent();
+        let mut figures: Vec<Vec<f64>> = vec![Vec::new(); libraries().len() + 2];
+        let time = |action: &mut dyn FnMut()| {
+            let begun = Instant::now();
+            for _ in 0..50 {
+                action();
+            }
+            begun.elapsed().as_nanos() as f64 / 50.0
+        };
+        for _ in 0..REPETITIONS {
+            for (at, (_, library)) in libraries().iter().enumerate() {
+                figures[at].push(time(&mut || {
+                    black_box(work.run(black_box(*library), &mut lent, false));
+                }));
+            }
+            let at = libraries().len();
+            figures[at].push(time(&mut || {
+                black_box(plain_pass(
+                    black_box(store),
+                    black_box(players),
+                    u32::MAX - 1,
+                ));
+            }));
+            figures[at + 1].push(time(&mut || {
+                black_box(adding_pass(black_box(store), black_box(players)));
+            }));
+        }
+        let figures: Vec<f64> = figures.into_iter().map(median).collect();
+        let pass = figures[libraries().len()];
+        println!("{}:", work.name);
+        for ((name, _), figure) in libraries().iter().zip(&figures) {
+            println!("    {name:<12}{figure:>9.0}   {:.2} passes", figure / pass);
+        }
+        println!("    {:<12}{pass:>9.0}", "one pass");
+        println!(
+            "    {:<12}{:>9.0}",
+            "adding up",
+            figures[libraries().len() + 1]
+        );
+    }
+}
+
+/// Bytes of stack.
+fn stacks() {
+    println!();
+    header("bytes of stack touched", false);
+    let show = |bytes: Option<usize>| bytes.map_or("-".to_string(), |bytes| bytes.to_string());
+    let row = |name: &str, works: &[Work]| {
+        print!("{name:<40}");
+        for (_, library) in libraries() {
+            let deepest = works.iter().map(|work| {
+                let mut lent = work.lent();
+                stack::used(|| {
+                    work.restore(&mut lent);
+                    black_box(work.run(library, &mut lent, false));
+                })
+            });
+            print!("{:>11}", show(deepest.max().flatten()));
+        }
+        println!();
+    };
+    let mut checks = works::calls();
+    checks.retain(|work| matches!(work.act, works::Act::Check));
+    let mut runs = works::kinds();
+    let steps: Vec<Work> = runs.iter().map(Work::by_step).collect();
+    runs.extend(works::sessions());
+    row("check", &checks);
+    row("step, all kinds above", &steps);
+    row("run, all sessions above", &runs);
+    print!("{:<40}", "fresh");
+    for (_, library) in libraries() {
+        let (mut store, mut players) = (vec![0; STORE_WORDS], vec![0; PLAYERS_WORDS]);
+        let bytes = stack::used(|| {
+            black_box(library.fresh(&mut store, &mut players));
+        });
+        print!("{:>11}", show(bytes));
+    }
+    println!();
+}
+
+/// Does one work once, for a tool that counts instructions.
+fn do_once(library: &str, work: &str, empty: bool) -> ExitCode {
+    let library = libraries().into_iter().find(|(name, _)| *name == library);
+    let work = works().into_iter().find(|other| other.name == work);
+    let (Some((_, library)), Some(work)) = (library, work) else {
+        return ExitCode::FAILURE;
+    };
+    black_box(work.run(library, &mut work.lent(), empty));
+    ExitCode::SUCCESS
+}
+
+fn main() -> ExitCode {
+    let words: Vec<String> = std::env::args().skip(1).collect();
+    let words: Vec<&str> = words.iter().map(String::as_str).collect();
+    match words[..] {
+        [] => {}
+        // For tools/bench: the names, and one work done once.
+        ["works"] => {
+            for work in works() {
+                println!(
+                    "{}\t{}\t{}",
+                    work.each,
+                    u32::from(work.less_empty()),
+                    work.name
+                );
+            }
+            return ExitCode::SUCCESS;
+        }
+        ["libraries"] => {
+            for (name, _) in libraries() {
+                println!("{name}");
+            }
+            return ExitCode::SUCCESS;
+        }
+        ["once", library, work] => return do_once(library, work, false),
+        ["empty", library, work] => return do_once(library, work, true),
+        _ => {
+            eprintln!("usage: bench");
+            return ExitCode::FAILURE;
+        }
+    }
+    header("ns for each step in a run", true);
+    for work in works::kinds() {
+        line(&work.name, &medians(&work));
+    }
+    println!();
+    header("ns for a whole run", true);
+    for work in works::sessions() {
+        line(&work.name, &medians(&work));
+    }
+    println!();
+    header("ns for a call that tests the tables", true);
+    for work in works::calls() {
+        line(&work.name, &medians(&work));
+    }
+    passes();
+    stacks();
+    ExitCode::SUCCESS
+}

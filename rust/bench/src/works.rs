@@ -1,0 +1,346 @@
+//! What is measured: start tables, and a session or a call on them.
+
+use calls::{Fields, Library};
+use compare::oracle::fields_of;
+use model::codec::{self, MARK, MAX_SESSION};
+use model::faults::NoFault;
+use model::generate::Profile;
+use model::prng::Prng;
+use model::rules;
+use model::state::{State, MAX_SERIAL};
+use model::step::{Range, Step};
+use model::tables::tables_of;
+use model::trial::play;
+
+/// One piece of work on a copy of its start tables.
+pub struct Work {
+    /// Its name in the table.
+    pub name: String,
+    /// What is done.
+    pub act: Act,
+    /// The figure is given for one of so many.
+    pub each: u32,
+    store: Vec<u32>,
+    players: Vec<u32>,
+}
+
+/// What is done.
+pub enum Act {
+    /// A run. With `less_empty` the figure is what it takes beyond a run over no record.
+    Run { session: Vec<u8>, less_empty: bool },
+    /// Calls of step, which test the tables each time.
+    Steps(Vec<Fields>),
+    /// The test of the tables.
+    Check,
+}
+
+/// The lent slices of one call, made once.
+pub struct Lent {
+    store: Vec<u32>,
+    players: Vec<u32>,
+    list: Vec<u32>,
+}
+
+impl Work {
+    /// The slices of this work.
+    pub fn lent(&self) -> Lent {
+        Lent {
+            store: self.store.clone(),
+            players: self.players.clone(),
+            list: vec![0; 3 * 5_460],
+        }
+    }
+
+    /// Makes the lent tables what they are at the start.
+    pub fn restore(&self, lent: &mut Lent) {
+        lent.store.copy_from_slice(&self.store);
+        lent.players.copy_from_slice(&self.players);
+    }
+
+    /// Does the work; with `empty` a run over no record in its place. (Its name is what tools/bench
+    /// counts the instructions of.)
+    #[inline(never)]
+    pub fn run(&self, library: &dyn Library, lent: &mut Lent, empty: bool) -> u32 {
+        let Lent {
+            store,
+            players,
+            list,
+        } = lent;
+        match &self.act {
+            Act::Run { session, .. } => {
+                let session = if empty { &MARK[..] } else { session };
+                library.run(store, players, session, 16_384, list).records
+            }
+            Act::Steps(steps) => {
+                let steps = steps.iter();
+                let codes = steps.map(|&step| library.step(store, players, step).code);
+                codes.fold(0, |sum, code| sum ^ code)
+            }
+            Act::Check => library.check(store, players).code,
+        }
+    }
+
+    /// The start tables.
+    pub fn tables(&self) -> (&[u32], &[u32]) {
+        (&self.store, &self.players)
+    }
+
+    /// The first steps of a run's session as calls of step.
+    pub fn by_step(&self) -> Work {
+        let mut steps = Vec::new();
+        if let Act::Run { session, .. } = &self.act {
+            let mut rest = &session[MARK.len()..];
+            while let (true, Ok((step, length))) = (steps.len() < 64, codec::decode(rest)) {
+                steps.push(fields_of(step));
+                rest = &rest[length..];
+            }
+        }
+        Work {
+            name: self.name.clone(),
+            each: steps.len() as u32,
+            act: Act::Steps(steps),
+            store: self.store.clone(),
+            players: self.players.clone(),
+        }
+    }
+
+    /// Whether the figure is what the work takes beyond a run over no record.
+    pub fn less_empty(&self) -> bool {
+        matches!(
+            self.act,
+            Act::Run {
+                less_empty: true,
+                ..
+            }
+        )
+    }
+
+    fn new(name: &str, state: &State, act: Act, each: u32) -> Work {
+        let (store, players) = tables_of(state);
+        Work {
+            name: name.to_string(),
+            act,
+            each,
+            store,
+            players,
+        }
+    }
+
+    /// Records of one kind, on the tables after other steps.
+    fn kind(name: &str, before: &[Step], steps: &[Step]) -> Work {
+        let (_, state) = play(before, &NoFault);
+        let act = Act::Run {
+            session: codec::session(steps),
+            less_empty: true,
+        };
+        Work::new(name, &state, act, steps.len() as u32)
+    }
+}
+
+fn assign(player: u8, low: u8, high: u16) -> Step {
+    let range = Range::new(low, high);
+    Step::Assign { player, range }
+}
+
+fn ask(low: u8, high: u16) -> Step {
+    let range = Range::new(low, high);
+    Step::RequestGuard { player: 0, range }
+}
+
+fn deliver(serial: u32) -> Step {
+    Step::Deliver { serial }
+}
+
+fn respond(serial: u32) -> Step {
+    Step::Respond { serial }
+}
+
+/// 64 of something, for entries 0, 4, 8 and so on.
+fn each_fourth(step: impl Fn(u8) -> Step) -> Vec<Step> {
+    (0..64).map(|at| step(4 * at)).collect()
+}
+
+/// Steps over the serials of 64 requests.
+fn serials(first: u32, step: impl Fn(u32) -> Step) -> Vec<Step> {
+    (first..first + 64).map(step).collect()
+}
+
+fn joined(parts: &[&[Step]]) -> Vec<Step> {
+    parts.concat()
+}
+
+/// Every kind, most with 64 requests in flight at the start or the end.
+pub fn kinds() -> Vec<Work> {
+    let owned = [assign(0, 0, 256)];
+    let asks = each_fourth(|entry| ask(entry, u16::from(entry) + 4));
+    // 64 guard intervals, each with its own guard; serials 2 to 65.
+    let mut guarded = owned.to_vec();
+    for (serial, &step) in (2..).zip(&asks) {
+        guarded.extend([step, deliver(serial), respond(serial)]);
+    }
+    let reads = each_fourth(|entry| Step::Read { player: 0, entry });
+    let writes = each_fourth(|entry| Step::Write {
+        player: 0,
+        entry,
+        value: 7,
+    });
+    let restarted: Vec<Step> = vec![Step::RestartTablet { entry: 0 }];
+    let memory = joined(&[&guarded, &reads[..1], &[deliver(66), respond(66)]]);
+    let splits: Vec<Step> = (1..=255).map(|entry| Step::Split { entry }).collect();
+    let merges: Vec<Step> = (1..=255).map(|entry| Step::Merge { entry }).collect();
+    let after_asks = joined(&[&owned, &asks]);
+    let after_reads = joined(&[&guarded, &reads]);
+    let after_writes = joined(&[&guarded, &writes]);
+    let delivered = serials(66, deliver);
+    let given_up = serials(66, |serial| Step::Abandon { serial });
+    let answered = serials(66, respond);
+    vec![
+        Work::kind("1 assign, 20 entries", &[], &vec![assign(0, 40, 60); 2_000]),
+        Work::kind(
+            "2 release, 20 entries",
+            &[],
+            &vec![
+                Step::Release {
+                    range: Range::new(40, 60)
+                };
+                2_000
+            ],
+        ),
+        Work::kind("3 ask for a guard", &owned, &asks),
+        Work::kind("4 read, to the store", &guarded, &reads),
+        Work::kind("4 read, from memory", &memory, &vec![reads[0]; 4_000]),
+        Work::kind("5 write", &guarded, &writes),
+        Work::kind("6 arrive, guard request", &after_asks, &serials(2, deliver)),
+        Work::kind("6 arrive, read", &after_reads, &delivered),
+        Work::kind("6 arrive, write", &after_writes, &delivered),
+        Work::kind(
+            "7 answer, guard granted",
+            &joined(&[&after_asks, &serials(2, deliver)]),
+            &serials(2, respond),
+        ),
+        Work::kind(
+            "7 answer, read",
+            &joined(&[&after_reads, &delivered]),
+            &answered,
+        ),
+        Work::kind(
+            "7 answer, committed",
+            &joined(&[&after_writes, &delivered]),
+            &answered,
+        ),
+        Work::kind(
+            "7 answer, turned back",
+            &joined(&[&after_writes, &restarted, &delivered]),
+            &answered,
+        ),
+        Work::kind("8 give up, read", &after_reads, &given_up),
+        Work::kind("8 give up, write", &after_writes, &given_up),
+        Work::kind(
+            "9 lose",
+            &joined(&[&after_reads, &given_up]),
+            &serials(66, |serial| Step::Lose { serial }),
+        ),
+        Work::kind("10 split", &[], &splits),
+        Work::kind("11 merge", &splits, &merges),
+        Work::kind("12 tablet restart", &guarded, &restarted.repeat(1_000)),
+        Work::kind(
+            "13 player restart",
+            &after_reads,
+            &vec![Step::RestartPlayer { player: 1 }; 1_000],
+        ),
+    ]
+}
+
+/// Full sessions: as many records as a session can have, and as many bytes of all kinds.
+pub fn sessions() -> Vec<Work> {
+    let mut rng = Prng::new(1);
+    let mut longest = Vec::new();
+    for _ in 0..5_460 {
+        let entry = rng.below(256) as u8;
+        longest.push(match rng.below(4) {
+            0 => Step::Split { entry },
+            1 => Step::Merge { entry },
+            2 => Step::RestartTablet { entry },
+            _ => Step::RestartPlayer {
+                player: rng.below(8) as u8,
+            },
+        });
+    }
+    let mut mixed = Vec::new();
+    let mut state = State::fresh();
+    let mut bytes = MARK.len();
+    'full: loop {
+        let mut profile = Profile::draw(&mut rng);
+        for _ in 0..200 {
+            let step = profile.next_step(&mut rng, &state);
+            bytes += codec::record(step).len();
+            if bytes > MAX_SESSION {
+                break 'full;
+            }
+            rules::step(&mut state, step);
+            mixed.push(step);
+        }
+    }
+    let run = |steps: &[Step]| Act::Run {
+        session: codec::session(steps),
+        less_empty: false,
+    };
+    let name = format!("session of {} records, all kinds", mixed.len());
+    vec![
+        Work::new(
+            "session of 5460 records, kinds 10 to 13",
+            &State::fresh(),
+            run(&longest),
+            1,
+        ),
+        Work::new(&name, &State::fresh(), run(&mixed), 1),
+    ]
+}
+
+/// Single calls that test the tables.
+pub fn calls() -> Vec<Work> {
+    let mut full = State::fresh();
+    full.last_serial = MAX_SERIAL;
+    for serial in 1..=64 {
+        rules::step(
+            &mut full,
+            Step::Read {
+                player: 0,
+                entry: 0,
+            },
+        );
+        full.last_serial = serial;
+    }
+    let memory = [
+        assign(0, 0, 1),
+        ask(0, 1),
+        deliver(2),
+        respond(2),
+        Step::Read {
+            player: 0,
+            entry: 0,
+        },
+        deliver(3),
+        respond(3),
+    ];
+    let (_, cached) = play(&memory, &NoFault);
+    let read = fields_of(memory[4]);
+    let split = fields_of(Step::Split { entry: 9 });
+    let merge = fields_of(Step::Merge { entry: 9 });
+    vec![
+        Work::new(
+            "step: 4 read, from memory",
+            &cached,
+            Act::Steps(vec![read; 10]),
+            10,
+        ),
+        Work::new(
+            "step: 10 split and 11 merge",
+            &cached,
+            Act::Steps([split, merge].repeat(5)),
+            10,
+        ),
+        Work::new("check, fresh tables", &State::fresh(), Act::Check, 1),
+        Work::new("check, 64 requests", &full, Act::Check, 1),
+    ]
+}
