@@ -14,7 +14,8 @@ use Rattle.requests.proofs.Basics.{is-true}
 use Rattle.players.specs.Rules.{State, step, fresh}
 use Rattle.players.specs.Table.{tableOf, valid}
 use Rattle.players.specs.Calls.{whole}
-use Rattle.players.proofs.Tables.{length-of, valid-table, state-table, ok-fresh}
+use Rattle.players.proofs.Tables.{length-of, state-table, ok-fresh}
+use Rattle.players.proofs.Kept.{fresh-valid}
 use Rattle.session.specs.declared.Decoded.{Decoded}
 use Rattle.session.specs.declared.Decoded.the-variants.{Record, Refused}
 use Rattle.session.specs.Records.{decode}
@@ -67,5 +68,5 @@ fresh-ran session budget list =
     let st = store-table (fresh .store) in
     let t = tableOf fresh in
     let w : whole st t ≡ true = rw (eq-eqb (length st) 1280 (store-parts (fresh .store) .whole), eq-eqb (length t) 9473 (length-of fresh)) in
-    ran-run st t session budget list w (is-true (valid st t) (valid-table fresh ok-fresh))
+    ran-run st t session budget list w (is-true (valid st t) fresh-valid)
     ∙ ap (λ (s : State). encoded list (run s session budget (whole-places list))) (state-table fresh ok-fresh)

@@ -33,9 +33,6 @@ use Rattle.steps.proofs.MoveLaws.{moves, stays, refused, last-is, full-
 
 -- there is room for a request: the region is not full, and a serial is left
 module _ {t : List ℕ} {s : State} (o : Ok s) (y : t ≡ tableOf s) where
-  few-is : full (take 768 (drop 8705 t)) ≡ false → leb places (length (s .requests)) ≡ false
-  few-is f = full-is o y false (sym f)
-
   spent-is : 4000000 ≤ getD t 0 0 → leb 4000000 (s .last) ≡ true
   spent-is h = let n = last-is o y in le-leb 4000000 (s .last) (omega arith)
 

@@ -9,8 +9,6 @@ use borrow.Author.Needs.{needs}
 use Rattle.store.proofs.FreshLaws.{copy-more, copy-end}
 use Rattle.store.proofs.words.copy.Statement.{statement}
 use Rattle.store.proofs.words.copy.Tie as tie
-use Rattle.store.proofs.words.copy.Reads as reads
-use Rattle.store.proofs.words.copy.Lts as lts
 
 abbrev Inv-loop : tie.InvT-loop
 Inv-loop part₀ from i₀ part i = (length part₀ ≡ length from) × (length part ≡ length from) × (i ≤ length part) × (take i part ≡ take i from)
