@@ -13,7 +13,7 @@ use mathlib.Core.Logic.{⊎-elim}
 use borrow.Author.Tests.{eq-eqb, ne-eqb, le-leb, lt-leb, lt-ltb, le-ltb, eqb-true, eqb-false}
 use Rattle.store.specs.Model.{Store, serials, put, unbroken, tablet-first, tablet-end, guarded, committed, with-boundary}
 use Rattle.store.specs.Table.{part, seek, guardAt, storeOf, listed, tableOf, valid}
-use Rattle.store.specs.Walk.{rebuilt}
+use Rattle.store.specs.Walk.{Sets}
 use Rattle.store.specs.Calls.{reply, Result, result, refusal, bad-serial, Done, done, encoded, checked, called, Steps, install, read, commit, split, merge, restart}
 use Rattle.store.specs.declared.Reply.{Reply}
 use Rattle.store.specs.declared.Range.{Range}
@@ -21,7 +21,6 @@ use Rattle.store.proofs.Bools.{decide}
 use Rattle.store.proofs.Lists.{length-listed, getD-listed}
 use Rattle.store.proofs.Parts.{part-at, part-set, part-set-below, part-set-above, same-parts}
 use Rattle.store.proofs.Tables.{table-parts, valid-parts, table-store}
-use Rattle.store.proofs.Rebuilt.{rebuilt-table}
 
 -- ---- the three ways a call ends
 
@@ -104,11 +103,10 @@ module _ (t : List ℕ) (w : length t ≡ 1280) where
     unfolding storeOf part
     install-across h k u = kept (install r g) t _ w (rw (lt-ltb (r .low) (r .high) h, le-leb (r .high) 256 k, u))
 
-    pub install-set : r .low < r .high → r .high ≤ 256 → unbroken bounds (r .low + 1) (r .high - (r .low + 1)) ≡ true → Steps (install r g) t (reply 0 1 0) (rebuilt t (r .low) (r .high) g)
+    pub install-set : r .low < r .high → r .high ≤ 256 → unbroken bounds (r .low + 1) (r .high - (r .low + 1)) ≡ true → (t′ : List ℕ) → Sets (r .low) (r .high) g t t′ → Steps (install r g) t (reply 0 1 0) t′
     unfolding storeOf part
-    install-set h k u =
-        changed (install r g) t _ w _ (guarded (storeOf t) (r .low) (r .high) g) (rw (lt-ltb (r .low) (r .high) h, le-leb (r .high) 256 k, u))
-        (λ n v. rebuilt-table t (r .low) (r .high) g w (omega arith) k n v)
+    install-set h k u t′ s =
+        changed (install r g) t _ w t′ (guarded (storeOf t) (r .low) (r .high) g) (rw (lt-ltb (r .low) (r .high) h, le-leb (r .high) 256 k, u)) (s .right)
 
   module _ (e : ℕ) (h : e < 256) where
     pub read-is : Steps (read e) t (reply 0 (getD t (768 + e) 0) (getD t (1024 + e) 0)) t
@@ -161,11 +159,9 @@ module _ (t : List ℕ) (w : length t ≡ 1280) where
         changed (merge e) t _ w _ (with-boundary (storeOf t) (put e 0 (storeOf t .boundary))) (rw (boundary-is, ne-eqb e 0 z, ne-eqb (getD t e 0) 0 x))
         (λ n y. set-boundary n t w y e h 0)
 
-    pub restart-is : (lo hi : ℕ) → lo ≡ tablet-first bounds e → hi ≡ tablet-end bounds e (255 - e) → lo ≤ hi → hi ≤ 256 → Steps (restart e) t (reply 0 0 0) (rebuilt t lo hi 0)
+    pub restart-is : (lo hi : ℕ) → lo ≡ tablet-first bounds e → hi ≡ tablet-end bounds e (255 - e) → (t′ : List ℕ) → Sets lo hi 0 t t′ → Steps (restart e) t (reply 0 0 0) t′
     unfolding storeOf part
-    restart-is lo hi el eh a b =
-        changed (restart e) t _ w _ (guarded (storeOf t) lo hi 0) (rw (el, eh))
-        (λ n y. rebuilt-table t lo hi 0 w a b n y)
+    restart-is lo hi el eh t′ s = changed (restart e) t _ w t′ (guarded (storeOf t) lo hi 0) (rw (el, eh)) (s .right)
 
 -- ---- calls that test the table first
 
