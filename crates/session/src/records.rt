@@ -8,11 +8,11 @@ use store::Range;
 use store::Reply;
 ghost use mathlib.Core.Path.{_≡_};
 ghost use mathlib.Core.List.{[], _∷_, _++_};
-ghost use Prim.Native.Nat.{_≤_};
+ghost use Prim.Native.Nat.{_%_, _≤_, _<_};
 ghost use lib.ListN.{length, take};
-ghost use Rattle.session.specs.Layout.{widths, bytes, fields, map-of};
+ghost use Rattle.session.specs.Layout.{widths, bytes, fields, record-length, map-of};
 ghost use Rattle.session.specs.Written.{wrote, written};
-ghost use Rattle.session.specs.Records.{step-of, Decodes, encode};
+ghost use Rattle.session.specs.Records.{step-of, map-at, Decodes, encode};
 
 // The step of a kind whose fields stand in the part.
 fn step_of(kind: u8, part: &[u8]) -> Step
@@ -67,6 +67,29 @@ fn step_of(kind: u8, part: &[u8]) -> Step
     }
 }
 
+// The record at the start of the part, whose map has a kind and whose bytes are there.
+fn of_kind(part: &[u8], map: u8, size: usize) -> Decoded
+    requires { ⌜ (1 ≤ length (now part)) × (map ≡ map-at (now part)) × (map < 64) × (size ≡ record-length (map-at (now part))) × (size ≤ length (now part)) × (map-at (now part) % 2 ≡ 1) ⌝ }
+    ensures { λ r. ⌜ Decodes (now (part .entry)) r ⌝ }
+{
+    let kind = fields::byte_at(part, 1);
+    if kind < 1 {
+        return Decoded::Refused(26);
+    }
+    if 13 < kind {
+        return Decoded::Refused(26);
+    }
+    let right = layout::map_of(kind as usize);
+    if map == right {
+        Decoded::Record {
+            step: step_of(kind, part),
+            length: size,
+        }
+    } else {
+        Decoded::Refused(27)
+    }
+}
+
 // The record that stands at the start of the part.
 pub fn decode(part: &[u8]) -> Decoded
     ensures { λ r. ⌜ Decodes (now (part .entry)) r ⌝ }
@@ -85,22 +108,7 @@ pub fn decode(part: &[u8]) -> Decoded
     if map % 2 != 1 {
         return Decoded::Refused(27);
     }
-    let kind = fields::byte_at(part, 1);
-    if kind < 1 {
-        return Decoded::Refused(26);
-    }
-    if 13 < kind {
-        return Decoded::Refused(26);
-    }
-    let right = layout::map_of(kind as usize);
-    if map == right {
-        Decoded::Record {
-            step: step_of(kind, part),
-            length: size,
-        }
-    } else {
-        Decoded::Refused(27)
-    }
+    of_kind(part, map, size)
 }
 
 // A record's bytes, in the first places of an array.
