@@ -61,7 +61,10 @@ fn take(
         if left <= taken {
             return stopped(9, taken, place);
         }
-        match session::records::decode(&session[place..]) {
+        let found = session::records::decode(&session[place..]);
+        // The copy is read field by field; found itself would be read in wider pieces than it was written in, and wait for them.
+        let decoded = found;
+        match decoded {
             Decoded::Record { step, length } => {
                 let reply = steps::take(store, players, step);
                 put_reply(replies, 3 * taken, reply);

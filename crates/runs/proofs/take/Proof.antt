@@ -56,8 +56,8 @@ part-decode-end c = search needs
 decode-requires : tie.Need-decode-requires Inv-loop μ-loop
 decode-requires c κs = search needs
 
-enum-known-step : tie.Need-enum-known-step Inv-loop μ-loop
-enum-known-step c = search needs
+enum-known-decoded : tie.Need-enum-known-decoded Inv-loop μ-loop
+enum-known-decoded c = search needs
 
 take-requires : tie.Need-take-requires Inv-loop μ-loop
 take-requires c κs = search needs
@@ -77,7 +77,7 @@ add-place : tie.Need-add-place Inv-loop μ-loop
 add-place c =
     let l = c .before .before .before .before .before .before .before .before .before .before .before .before .before .before .before .before .before .before .loop in
     let a = c .before .before .before .before .before .before .before .before .before .before .before .before .before .before .before .before .before .before .before .before .before .before .before .args in
-    let s = c .before .before .before .before .before .before .before .before .before .before .before .before .step in
+    let s = c .before .before .before .before .before .before .before .before .before .before .before .before .decoded in
     let e = decoded-at (l .place) (a .session .now) _ _ (c .before .before .before .before .before .before .before .before .before .before .before .before .before .before .decode .ensures) (s .given .1) in
     let w = record-within (l .place) (a .session .now) _ _ (l .inv .0 .inside) e in
     omega (arith, w .1, c .before .before .before .before .before .before .before .before .before .before .before .before .before .before .before .before .before .before .before .before .before .before .before .pre .short)
@@ -89,7 +89,7 @@ loop-less : tie.Need-loop-less Inv-loop μ-loop
 loop-less c =
     let l = c .before .before .before .before .before .before .before .before .before .before .before .before .before .before .before .before .before .before .loop in
     let a = c .before .before .before .before .before .before .before .before .before .before .before .before .before .before .before .before .before .before .before .before .before .before .before .args in
-    let s = c .before .before .before .before .before .before .before .before .before .before .before .before .step in
+    let s = c .before .before .before .before .before .before .before .before .before .before .before .before .decoded in
     let e = decoded-at (l .place) (a .session .now) _ _ (c .before .before .before .before .before .before .before .before .before .before .before .before .before .before .decode .ensures) (s .given .1) in
     let w = record-within (l .place) (a .session .now) _ _ (l .inv .0 .inside) e in
     omega (arith, w .0, w .1)
@@ -99,13 +99,13 @@ unfolding Bytes
 loop-again c =
     let l = c .before .before .before .before .before .before .before .before .before .before .before .before .before .before .before .before .before .before .loop in
     let a = c .before .before .before .before .before .before .before .before .before .before .before .before .before .before .before .before .before .before .before .before .before .before .before .args in
-    let s = c .before .before .before .before .before .before .before .before .before .before .before .before .step in
+    let s = c .before .before .before .before .before .before .before .before .before .before .before .before .decoded in
     let e = decoded-at (l .place) (a .session .now) _ _ (c .before .before .before .before .before .before .before .before .before .before .before .before .before .before .decode .ensures) (s .given .1) in
     let bytes = bytes-drop (l .place) (a .session .now) (λ i. omega (arith, c .before .before .before .before .before .before .before .before .before .before .before .before .before .before .before .before .before .before .before .before .shared-slice-known .given i)) in
     (one-more (a .left) (a .session .now) (a .replies .now) _ (l .taken) (l .place) (l .store) (l .players) (l .replies) (l .inv .0) (c .before .before .before .before .before .before .before .before .before .before .before .before .before .before .before .before .before .loop-test .taken) (omega (arith, c .before .before .before .before .before .before .before .before .before .before .before .before .before .before .before .before .if1 .left)) bytes _ _ e (omega (arith, c .before .before .before .before .before .before .before .before .before .before .before .before .before .before .before .before .before .before .before .before .before .before .before .pre .room, c .before .before .before .before .before .before .before .before .before .before .before .before .before .before .before .before .if1 .left)) (c .before .before .before .before .before .before .before .before .take .result) _ _ _ (c .before .before .before .before .before .before .before .before .take .ensures) (c .before .before .put-reply .ensures), search needs, search needs, search needs)
 
-enum-known-why : tie.Need-enum-known-why Inv-loop μ-loop
-enum-known-why c = search needs
+enum-known-decoded-2 : tie.Need-enum-known-decoded-2 Inv-loop μ-loop
+enum-known-decoded-2 c = search needs
 
 stopped-requires-2 : tie.Need-stopped-requires-2 Inv-loop μ-loop
 stopped-requires-2 c κs = (omega arith, omega arith)
@@ -123,7 +123,7 @@ returns-2 : tie.Need-returns-2 Inv-loop μ-loop
 returns-2 c =
     let l = c .before .before .before .before .before .before .before .before .loop in
     let a = c .before .before .before .before .before .before .before .before .before .before .before .before .before .args in
-    rw (c .stopped2 .ensures) (is-refused (a .left) (a .session .now) (a .replies .now) _ (l .taken) (l .place) (l .store) (l .players) (l .replies) (l .inv .0) (c .before .before .before .before .before .before .before .loop-test .taken) (omega (arith, c .before .before .before .before .before .before .if1 .left)) _ (decoded-at (l .place) (a .session .now) _ _ (c .before .before .before .before .decode .ensures) (c .before .before .why .given .1)))
+    rw (c .stopped2 .ensures) (is-refused (a .left) (a .session .now) (a .replies .now) _ (l .taken) (l .place) (l .store) (l .players) (l .replies) (l .inv .0) (c .before .before .before .before .before .before .before .loop-test .taken) (omega (arith, c .before .before .before .before .before .before .if1 .left)) _ (decoded-at (l .place) (a .session .now) _ _ (c .before .before .before .before .decode .ensures) (c .before .before .decoded2 .given .1)))
 
 stopped-requires-3 : tie.Need-stopped-requires-3 Inv-loop μ-loop
 stopped-requires-3 c κs = (omega arith, omega arith)
@@ -159,7 +159,7 @@ take-spec =
     part-decode-start
     part-decode-end
     decode-requires
-    enum-known-step
+    enum-known-decoded
     take-requires
     mul-put-reply
     put-reply-requires
@@ -167,7 +167,7 @@ take-spec =
     add-taken
     loop-less
     loop-again
-    enum-known-why
+    enum-known-decoded-2
     stopped-requires-2
     same-length-4
     same-length-5
