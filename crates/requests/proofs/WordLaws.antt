@@ -164,17 +164,28 @@ shift-more n b i w₀ w hb h m =
           ∙ sym (drop-drop 1 i w) ∙ ap (λ (l : List ℕ). drop 1 l) (m .back) ∙ drop-drop 1 i w₀;
     }
 
--- a place closed: the words after it moved down, and the last place made 0
-pub shift-done : (w₀ w p : List ℕ) (k i : ℕ) → k < 64 → length w₀ ≡ 768 → i ≤ 756 → 756 ≤ i → Shifted 12 (k * 12) i w₀ w → p ≡ replicate (length (take 12 (drop 756 w))) 0 → putMid 756 12 w p ≡ closed k w₀
+-- the first place dropped: the words after it moved down, and the last place made 0
+pub drop-done : (w₀ w p : List ℕ) (n i : ℕ) → n + 12 ≡ length w₀ → i ≡ n → Shifted 12 0 i w₀ w → p ≡ replicate (length (take (length w - n) (drop n w))) 0
+    → putMid n (length w - n) w p ≡ drop 12 w₀ ++ replicate 12 0
+drop-done w₀ w p n i l z m e =
+    let s : n - 0 ≡ n = omega arith in
+    let front : take n w ≡ take n (drop 12 w₀) = rw (z, s) at (m .front) in
+    let t : take n (drop 12 w₀) ≡ drop 12 w₀ = take-all n (drop 12 w₀) (rw length-drop (omega arith)) in
+    let r : length w - n ≡ 12 = omega (arith, m .long) in
+    let q : length (drop n w) ≡ 12 = rw length-drop r in
+    let d : take 12 (drop n w) ≡ drop n w = take-all 12 (drop n w) (omega arith) in
+    let o : drop 12 (drop n w) ≡ [] = drop-of-length-le (drop n w) {i = 12} (omega arith) in
+    rw (e, r, d, q, o, front, t)
+
+-- a place closed: it is the first of those from it on
+pub close-done : (w p : List ℕ) (k : ℕ) → p ≡ drop 12 (take (length w - k * 12) (drop (k * 12) w)) ++ replicate 12 0
+    → putMid (k * 12) (length w - k * 12) w p ≡ closed k w
 unfolding closed
-shift-done w₀ w p k i h l a b m e =
-    let z : i ≡ 756 = omega arith in
-    let front : take 756 w ≡ take (k * 12) w₀ ++ take (756 - k * 12) (drop (k * 12 + 12) w₀) = rw z at (m .front) in
-    let t : take (756 - k * 12) (drop (k * 12 + 12) w₀) ≡ drop (k * 12 + 12) w₀ = take-all (756 - k * 12) (drop (k * 12 + 12) w₀) (rw length-drop (omega arith)) in
-    let n : length (drop 756 w) ≡ 12 = rw length-drop (omega (arith, m .long)) in
-    let d : take 12 (drop 756 w) ≡ drop 756 w = take-all 12 (drop 756 w) (omega arith) in
-    let o : drop 12 (drop 756 w) ≡ [] = drop-of-length-le (drop 756 w) {i = 12} (omega arith) in
-    rw (e, d, n, o, front, t) (append-assoc (take (k * 12) w₀) (drop (k * 12 + 12) w₀) (replicate 12 0))
+close-done w p k e =
+    let q : length (drop (k * 12) w) ≡ length w - k * 12 = length-drop (k * 12) w in
+    let d : take (length w - k * 12) (drop (k * 12) w) ≡ drop (k * 12) w = take-all (length w - k * 12) (drop (k * 12) w) (omega (arith, q)) in
+    let o : drop (length w - k * 12) (drop (k * 12) w) ≡ [] = drop-of-length-le (drop (k * 12) w) {i = length w - k * 12} (omega (arith, q)) in
+    rw (e, d, o, append-nil, drop-drop)
 
 -- a place moved down
 pub move-done : (w₀ w : List ℕ) (j k i : ℕ) → j ≤ k → k < 64 → length w₀ ≡ 768 → i ≤ j * 12 + 12 → j * 12 + 12 ≤ i → Shifted (k * 12 - j * 12) (j * 12) i w₀ w → w ≡ over w₀ (j * 12) (take 12 (drop (k * 12) w₀))

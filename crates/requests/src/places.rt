@@ -3,10 +3,11 @@ use crate::Request;
 use crate::tests;
 use store::words;
 ghost use mathlib.Core.Path.{_≡_};
+ghost use mathlib.Core.List.{_++_};
 ghost use mathlib.Core.Bool.{cond, not, _&&_};
 ghost use Prim.Native.Nat.{_+_, _*_, _%_, _≤_, _<_};
 ghost use lib.Dec.{ltb, eqb};
-ghost use lib.ListN.{length, getD, take, drop, set};
+ghost use lib.ListN.{length, getD, take, drop, set, replicate};
 ghost use Rattle.requests.specs.Model.{by, using-entry};
 ghost use Rattle.requests.specs.Region.{requestAt, bit, wordsOf};
 ghost use Rattle.requests.specs.Calls.{over, closed, carried, carry};
@@ -99,17 +100,26 @@ pub(crate) fn put_request(region: &mut [u32], k: usize, r: Request)
     region[b + 11] = r.second;
 }
 
+// Takes the first of these places out: later ones move down by one, and the last becomes unused.
+fn drop_first(places: &mut [u32])
+    requires { ⌜ 12 ≤ length (now places) ⌝ }
+    ensures { λ _. ⌜ now (places .exit) ≡ drop 12 (now (places .entry)) ++ replicate 12 0 ⌝ }
+{
+    let n = places.len() - 12;
+    let mut i = 0;
+    while i < n {
+        places[i] = places[i + 12];
+        i += 1;
+    }
+    words::fill(&mut places[n..], 0);
+}
+
 // Takes place `k` out: later places move down by one, and the last becomes unused.
 pub(crate) fn close(region: &mut [u32], k: usize)
     requires { ⌜ (k < 64) × (length (now region) ≡ 768) ⌝ }
     ensures { λ _. ⌜ now (region .exit) ≡ closed k (now (region .entry)) ⌝ }
 {
-    let mut i = k * 12;
-    while i < 756 {
-        region[i] = region[i + 12];
-        i += 1;
-    }
-    words::fill(&mut region[756..768], 0);
+    drop_first(&mut region[k * 12..]);
 }
 
 // Marks the request `r` of place `k` as overlapped if it is a pending read or write of the player on the entry.
