@@ -198,3 +198,11 @@ move-done w₀ w j k i a b l h h′ m =
     let back : drop (j * 12 + 12) w ≡ drop (j * 12 + 12) w₀ = rw z at (m .back) in
     let lc : length c ≡ 12 = length-take-le 12 (drop (k * 12) w₀) (rw length-drop (omega arith)) in
     sym (take-append-drop (j * 12 + 12) w) ∙ rw (front, back, append-assoc) (sym (over-is w₀ (j * 12) c (omega arith) ∙ rw lc))
+
+-- a place moved onto itself
+pub move-none : (w : List ℕ) (j k : ℕ) → j ≡ k → k < 64 → length w ≡ 768 → w ≡ over w (j * 12) (take 12 (drop (k * 12) w))
+move-none w j k e h l =
+    let c : List ℕ = take 12 (drop (k * 12) w) in
+    let lc : length c ≡ 12 = length-take-le 12 (drop (k * 12) w) (rw length-drop (omega arith)) in
+    let s : over w (k * 12) c ≡ take (k * 12) w ++ (c ++ drop (k * 12 + 12) w) = rw lc at (over-is w (k * 12) c (omega arith)) in
+    rw (e, s, ← drop-drop 12 (k * 12) w, take-append-drop, take-append-drop)

@@ -133,8 +133,8 @@ pub(crate) fn overlap(region: &mut [u32], k: usize, r: Request, player: u8, entr
     region[k * 12 + 7] = 1;
 }
 
-// Moves the words of place `k` down to place `j`.
-fn move_down(region: &mut [u32], j: usize, k: usize)
+// Copies the words of place `k` down to place `j`.
+fn copy_down(region: &mut [u32], j: usize, k: usize)
     requires { ⌜ (j ≤ k) × (k < 64) × (length (now region) ≡ 768) ⌝ }
     ensures { λ _. ⌜ now (region .exit) ≡ over (now (region .entry)) (j * 12) (take 12 (drop (k * 12) (now (region .entry)))) ⌝ }
 {
@@ -145,6 +145,17 @@ fn move_down(region: &mut [u32], j: usize, k: usize)
         region[i] = region[i + n];
         i += 1;
     }
+}
+
+// Moves the words of place `k` down to place `j`, unless they are there.
+fn move_down(region: &mut [u32], j: usize, k: usize)
+    requires { ⌜ (j ≤ k) × (k < 64) × (length (now region) ≡ 768) ⌝ }
+    ensures { λ _. ⌜ now (region .exit) ≡ over (now (region .entry)) (j * 12) (take 12 (drop (k * 12) (now (region .entry)))) ⌝ }
+{
+    if j == k {
+        return;
+    }
+    copy_down(region, j, k);
 }
 
 // Marks the request `r` of place `j` as abandoned if it is the player's.
