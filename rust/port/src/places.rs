@@ -54,7 +54,9 @@ pub fn carry(region: &mut [u32], j: usize, k: usize, player: u8) -> usize {
     if !remains(r, player) {
         return j;
     }
-    region.copy_within(k * 12..k * 12 + 12, j * 12);
+    if j != k {
+        region.copy_within(k * 12..k * 12 + 12, j * 12);
+    }
     if r.player == player {
         region[j * 12 + 9] = 1;
     }
