@@ -41,6 +41,30 @@ pub struct Decoded {
     pub serial: u32,
 }
 
+impl Decoded {
+    /// A refusal: its number, and zeros.
+    pub fn refused(code: u32) -> Decoded {
+        Decoded {
+            code,
+            ..Decoded::default()
+        }
+    }
+
+    /// A record of this length with these fields.
+    pub fn record(length: usize, fields: Fields) -> Decoded {
+        Decoded {
+            code: 0,
+            length: length as u32,
+            kind: u32::from(fields.kind),
+            player: u32::from(fields.player),
+            entry: u32::from(fields.entry),
+            high: u32::from(fields.high),
+            value: fields.value,
+            serial: fields.serial,
+        }
+    }
+}
+
 /// A step by its fields, at the widths of a record. Those that the kind lacks are 0.
 #[derive(Clone, Copy, Debug, Default, PartialEq, Eq)]
 #[allow(missing_docs)]

@@ -161,23 +161,8 @@ impl<S: Switches> Library for Model<S> {
 
     fn decode(&self, part: &[u8]) -> Decoded {
         match codec::decode(part) {
-            Err(refusal) => Decoded {
-                code: refusal.number(),
-                ..Decoded::default()
-            },
-            Ok((step, length)) => {
-                let fields = fields_of(step);
-                Decoded {
-                    code: 0,
-                    length: length as u32,
-                    kind: u32::from(fields.kind),
-                    player: u32::from(fields.player),
-                    entry: u32::from(fields.entry),
-                    high: u32::from(fields.high),
-                    value: fields.value,
-                    serial: fields.serial,
-                }
-            }
+            Err(refusal) => Decoded::refused(refusal.number()),
+            Ok((step, length)) => Decoded::record(length, fields_of(step)),
         }
     }
 

@@ -73,6 +73,22 @@ impl<L: Library> Group<'_, L> {
         self.failure = Some(print(&small, found.as_ref()));
         true
     }
+
+    /// Tries calls on the same tables, each from the start.
+    fn any_fails(
+        &mut self,
+        store: &[u32],
+        players: &[u32],
+        acts: impl IntoIterator<Item = Act>,
+    ) -> bool {
+        acts.into_iter().any(|act| {
+            self.fails(Case {
+                store: store.to_vec(),
+                players: players.to_vec(),
+                act,
+            })
+        })
+    }
 }
 
 type Run<L> = fn(&mut Group<L>);
@@ -417,15 +433,8 @@ fn broken_rules(group: &mut Group<impl Library>) {
                 Act::Store(StoreCall::Check),
                 Act::Store(any_store_call(&mut group.rng)),
             ];
-            for act in acts {
-                let case = Case {
-                    store: store.clone(),
-                    players: players.clone(),
-                    act,
-                };
-                if group.fails(case) {
-                    return;
-                }
+            if group.any_fails(&store, &players, acts) {
+                return;
             }
         }
     }
@@ -459,15 +468,8 @@ fn changed_words(group: &mut Group<impl Library>) {
             Act::Store(StoreCall::Fresh),
             Act::Store(any_store_call(&mut group.rng)),
         ];
-        for act in acts {
-            let case = Case {
-                store: store.clone(),
-                players: players.clone(),
-                act,
-            };
-            if group.fails(case) {
-                return;
-            }
+        if group.any_fails(&store, &players, acts) {
+            return;
         }
     }
 }
@@ -497,15 +499,8 @@ fn lengths(group: &mut Group<impl Library>) {
                     Act::Store(any_store_call(&mut group.rng)),
                     Act::Store(StoreCall::Fresh),
                 ];
-                for act in acts {
-                    let case = Case {
-                        store: store.clone(),
-                        players: players.clone(),
-                        act,
-                    };
-                    if group.fails(case) {
-                        return;
-                    }
+                if group.any_fails(&store, &players, acts) {
+                    return;
                 }
             }
         }

@@ -158,6 +158,22 @@ mod tests {
     use super::*;
     use crate::{Range, Session, Why};
 
+    fn stopped(why: Why, records: u32, place: u32) -> Report {
+        Report {
+            why,
+            records,
+            place,
+        }
+    }
+
+    fn issued(serial: u32) -> Reply {
+        Reply::Issued { serial }
+    }
+
+    fn read(player: Player, entry: u8) -> Step {
+        Step::Read { player, entry }
+    }
+
     #[test]
     fn fresh_tables_have_their_words() {
         let tables = Tables::fresh();
@@ -209,7 +225,7 @@ mod tests {
                 player,
                 range: Range::all()
             }),
-            Reply::Issued { serial: 1 }
+            issued(1)
         );
         assert_eq!(tables.last_serial(), 1);
         assert_eq!(tables.players_words()[1..257], [7; 256]);
@@ -252,20 +268,8 @@ mod tests {
     fn requests_are_offered_as_records() {
         let mut tables = Tables::fresh();
         let [one, two] = [1, 2].map(|n| Player::new(n).unwrap());
-        assert_eq!(
-            tables.step(Step::Read {
-                player: one,
-                entry: 9
-            }),
-            Reply::Issued { serial: 1 }
-        );
-        assert_eq!(
-            tables.step(Step::Read {
-                player: one,
-                entry: 10
-            }),
-            Reply::Issued { serial: 2 }
-        );
+        assert_eq!(tables.step(read(one, 9)), issued(1));
+        assert_eq!(tables.step(read(one, 10)), issued(2));
         assert_eq!(tables.step(Step::Abandon { serial: 1 }), Reply::Done);
         let requests = tables.requests();
         assert_eq!(requests.len(), 64);
@@ -304,7 +308,7 @@ mod tests {
                 player,
                 range: Range::of_entry(9),
             },
-            Step::Read { player, entry: 9 },
+            read(player, 9),
             Step::Deliver { serial: 2 },
         ] {
             session.push(step).unwrap();
@@ -321,31 +325,14 @@ mod tests {
                 player,
                 range: Range::of_entry(9)
             }),
-            Reply::Issued { serial: 1 }
+            issued(1)
         );
-        assert_eq!(
-            stepped.step(Step::Read { player, entry: 9 }),
-            Reply::Issued { serial: 2 }
-        );
+        assert_eq!(stepped.step(read(player, 9)), issued(2));
         assert_eq!(stepped.step(Step::Deliver { serial: 2 }), Reply::Done);
         let mut tables = Tables::fresh();
         let (report, replies) = tables.run_all(session().bytes());
-        assert_eq!(
-            report,
-            Report {
-                why: Why::End,
-                records: 3,
-                place: 20
-            }
-        );
-        assert_eq!(
-            replies,
-            [
-                Reply::Issued { serial: 1 },
-                Reply::Issued { serial: 2 },
-                Reply::Done
-            ]
-        );
+        assert_eq!(report, stopped(Why::End, 3, 20));
+        assert_eq!(replies, [issued(1), issued(2), Reply::Done]);
         assert_eq!(tables, stepped);
     }
 
@@ -355,31 +342,19 @@ mod tests {
         let mut replies = [[5; 3]; 3];
         assert_eq!(
             tables.run(session().bytes(), 1, &mut replies),
-            Report {
-                why: Why::Spent,
-                records: 1,
-                place: 10
-            }
+            stopped(Why::Spent, 1, 10)
         );
         assert_eq!(replies, [[1, 1, 0], [5; 3], [5; 3]]);
         let mut tables = Tables::fresh();
         assert_eq!(
             tables.run(session().bytes(), 9, &mut replies[..2]),
-            Report {
-                why: Why::Spent,
-                records: 2,
-                place: 14
-            }
+            stopped(Why::Spent, 2, 14)
         );
         assert_eq!(replies, [[1, 1, 0], [1, 2, 0], [5; 3]]);
         let mut tables = Tables::fresh();
         assert_eq!(
             tables.run(session().bytes(), 9, &mut []),
-            Report {
-                why: Why::Spent,
-                records: 0,
-                place: 4
-            }
+            stopped(Why::Spent, 0, 4)
         );
         assert_eq!(tables, Tables::fresh());
     }
@@ -388,11 +363,7 @@ mod tests {
     fn a_refused_run_alters_nothing() {
         let mut tables = Tables::fresh();
         let mut replies = [[5; 3]; 3];
-        let refused = |refusal| Report {
-            why: Why::Refused(refusal),
-            records: 0,
-            place: 0,
-        };
+        let refused = |refusal| stopped(Why::Refused(refusal), 0, 0);
         assert_eq!(tables.run(&[], 9, &mut replies), refused(Refusal::NoMark));
         assert_eq!(
             tables.run(&session().bytes()[1..], 9, &mut replies),
@@ -413,14 +384,7 @@ mod tests {
         bytes.push(0x40);
         let mut tables = Tables::fresh();
         let (report, replies) = tables.run_all(&bytes);
-        assert_eq!(
-            report,
-            Report {
-                why: Why::Refused(Refusal::UnknownField),
-                records: 3,
-                place: 20
-            }
-        );
+        assert_eq!(report, stopped(Why::Refused(Refusal::UnknownField), 3, 20));
         assert_eq!(replies.len(), 3);
         assert_eq!(tables.last_serial(), 2);
     }

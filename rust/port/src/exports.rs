@@ -125,23 +125,8 @@ impl Library for Port {
 
     fn decode(&self, part: &[u8]) -> Decoded {
         match records::decode(part) {
-            Err(code) => Decoded {
-                code,
-                ..Decoded::default()
-            },
-            Ok((step, length)) => {
-                let fields = fields_of(step);
-                Decoded {
-                    code: 0,
-                    length: length as u32,
-                    kind: u32::from(fields.kind),
-                    player: u32::from(fields.player),
-                    entry: u32::from(fields.entry),
-                    high: u32::from(fields.high),
-                    value: fields.value,
-                    serial: fields.serial,
-                }
-            }
+            Err(code) => Decoded::refused(code),
+            Ok((step, length)) => Decoded::record(length, fields_of(step)),
         }
     }
 
