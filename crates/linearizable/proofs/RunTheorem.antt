@@ -1,12 +1,12 @@
 -- The claim holds of what a run leaves in list and tables.
 -- Assumes nothing.
 use mathlib.Core.Path.{_≡_, _∙_, refl, sym, ap, subst}
-use mathlib.Core.Bool.{Bool, true, false, cond}
 use mathlib.Core.List.{List, [], _∷_}
 use Prim.Native.Nat.{ℕ, zero, suc}
 use lib.Dec.{ltb}
 use lib.ListN.{length, drop}
 use Rattle.store.specs.declared.Reply.{Reply}
+use Rattle.requests.proofs.Basics.{cond-elim}
 use Rattle.players.specs.declared.Step.{Step}
 use Rattle.players.specs.Rules.{State, replies, fresh}
 use Rattle.players.specs.Played.{AllFit, state-after, tablesOf}
@@ -39,14 +39,10 @@ unfolding steps-from
 fit-from zero part b = tt
 fit-from (suc left) part b = fit-next (decode part) part (λ n. steps-from left (drop n part)) refl b (λ n. fit-from left (drop n part) (bytes-drop n part b))
 
-either : (a : Bool) (xs ys : List Step) → AllFit xs → AllFit ys → AllFit (cond a xs ys)
-either true xs ys f g = f
-either false xs ys f g = g
-
 pub bytes-fit : (session : List ℕ) (budget places : ℕ) → Bytes session → AllFit (steps session budget places)
 bytes-fit session budget places b =
-    either (ltb longest (length session)) _ _ tt
-    (either (marked session) _ _ (fit-from (allowed budget places) (drop (length mark) session) (bytes-drop (length mark) session b)) tt)
+    cond-elim AllFit (ltb longest (length session)) _ _ (λ _. tt) (λ _.
+    cond-elim AllFit (marked session) _ _ (λ _. fit-from (allowed budget places) (drop (length mark) session) (bytes-drop (length mark) session b)) (λ _. tt))
 
 -- ---- the run
 

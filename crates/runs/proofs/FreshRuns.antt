@@ -1,7 +1,7 @@
 -- A run from fresh tables, and how many records a run takes.
 -- Assumes nothing.
 use mathlib.Core.Path.{_≡_, _∙_, refl, ap}
-use mathlib.Core.Bool.{Bool, true, false, cond}
+use mathlib.Core.Bool.{true}
 use mathlib.Core.List.{List}
 use Prim.Native.Nat.{ℕ, zero, suc, _+_, _≤_}
 use native.Mathlib.Omega.{arith}
@@ -10,7 +10,7 @@ use lib.ListN.{length, drop}
 use borrow.Author.Tests.{eq-eqb}
 use Rattle.store.specs.Table.{tableOf as store-table}
 use Rattle.store.proofs.Tables.{table-parts as store-parts}
-use Rattle.requests.proofs.Basics.{is-true}
+use Rattle.requests.proofs.Basics.{is-true, cond-elim}
 use Rattle.players.specs.Rules.{State, step, fresh}
 use Rattle.players.specs.Table.{tableOf, valid}
 use Rattle.players.specs.Calls.{whole}
@@ -34,10 +34,6 @@ pub record Counted (left : ℕ) (r : Run) : Type 0 where
 none : (left why place : ℕ) (s : State) → Counted left (stopped why place s)
 none left why place s = record { replied = refl; few = omega arith }
 
-either : (left : ℕ) (b : Bool) (q r : Run) → Counted left q → Counted left r → Counted left (cond b q r)
-either left true q r f g = f
-either left false q r f g = g
-
 -- by what stands at a place
 next : (left place : ℕ) (s : State) (d : Decoded) (part : List ℕ)
     → ((s′ : State) (place′ : ℕ) (part′ : List ℕ) → Counted left (run-from left s′ place′ part′))
@@ -51,14 +47,14 @@ counted-from : (left : ℕ) (s : State) (place : ℕ) (part : List ℕ) → Coun
 unfolding run-from
 counted-from zero s place part = none zero _ place s
 counted-from (suc left) s place part =
-    either (suc left) (eqb (length part) 0) _ _ (none (suc left) at-end place s) (next left place s (decode part) part (counted-from left))
+    cond-elim (Counted (suc left)) (eqb (length part) 0) _ _ (λ _. none (suc left) at-end place s) (λ _. next left place s (decode part) part (counted-from left))
 
 pub counted : (s : State) (session : List ℕ) (budget places : ℕ) → Counted places (run s session budget places)
 counted s session budget places =
     let f = allowed-few budget places in
     let c = counted-from (allowed budget places) s 4 (drop (length mark) session) in
-    either places (ltb longest (length session)) _ _ (none places 37 0 s)
-    (either places (marked session) _ _ (record { replied = c .replied; few = omega (arith, f .1, c .few) }) (none places 23 0 s))
+    cond-elim (Counted places) (ltb longest (length session)) _ _ (λ _. none places 37 0 s) (λ _.
+    cond-elim (Counted places) (marked session) _ _ (λ _. record { replied = c .replied; few = omega (arith, f .1, c .few) }) (λ _. none places 23 0 s))
 
 -- ---- from fresh tables
 
