@@ -1,7 +1,7 @@
 // A run over a session.
 use crate::Ended;
 ghost use mathlib.Core.Path.{_≡_};
-ghost use Rattle.runs.specs.Calls.{finished, ran};
+ghost use Rattle.steps.specs.RunCalls.{finished, ran};
 ghost use Rattle.exports.specs.Calls.{report-of};
 
 // Takes the steps of a session's records: at most `budget`, and at most as many as the list has whole places for their replies.
@@ -15,7 +15,7 @@ pub extern "C" fn famdrize_run(
 ) -> Ended
     ensures { λ r. ⌜ finished (report-of r) (now (replies .exit)) (now (store .exit)) (now (players .exit)) ≡ ran (now (store .entry)) (now (players .entry)) (now (session .entry)) budget (now (replies .entry)) ⌝ }
 {
-    let r = runs::run(store, players, session, budget, replies);
+    let r = steps::running::run(store, players, session, budget, replies);
     Ended {
         why: r.why,
         records: r.records,

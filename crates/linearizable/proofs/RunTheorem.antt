@@ -19,9 +19,9 @@ use Rattle.session.specs.Mark.{mark, marked}
 use Rattle.session.specs.Runs.{on-record, run, steps-from, steps, allowed, longest, whole-places}
 use Rattle.session.proofs.RunLaws.{bytes-drop}
 use Rattle.session.proofs.RoundTrip.{decoded-fits}
-use Rattle.runs.specs.Calls.{encoded, replies-from}
-use Rattle.runs.proofs.LoopLaws.{replies-filled}
-use Rattle.runs.proofs.FreshRuns.{counted, fresh-ran}
+use Rattle.steps.specs.RunCalls.{encoded, replies-from}
+use Rattle.steps.proofs.LoopLaws.{replies-filled}
+use Rattle.steps.proofs.FreshRuns.{counted, fresh-ran}
 use Rattle.linearizable.specs.Claim.{LinearizableBy}
 use Rattle.linearizable.specs.Tables.{store-in}
 use Rattle.linearizable.specs.Runs.{LinearizableRan}

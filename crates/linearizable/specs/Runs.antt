@@ -1,4 +1,4 @@
--- The claim about the run itself: two lent tables, made fresh by the call `players::fresh`, and a call of `runs::run` over any session bytes, which does what its contract says
+-- The claim about the run itself: two lent tables, made fresh by the call `players::fresh`, and a call of `steps::running::run` over any session bytes, which does what its contract says
 -- (crate runs, specs/Calls: `ran`), word for word. From bytes to the claim nothing stands between.
 -- Assumes nothing.
 use mathlib.Core.Path.{_≡_}
@@ -11,7 +11,7 @@ use Rattle.players.specs.Calls.{whole}
 use Rattle.players.specs.Played.{tables}
 use Rattle.session.specs.Records.{Bytes}
 use Rattle.session.specs.Runs.{steps, whole-places}
-use Rattle.runs.specs.Calls.{Finished, ran, replies-from}
+use Rattle.steps.specs.RunCalls.{Finished, ran, replies-from}
 use Rattle.linearizable.specs.Claim.{LinearizableBy}
 use Rattle.linearizable.specs.Tables.{store-in, freshened}
 

@@ -15,7 +15,7 @@ use Rattle.session.specs.declared.Report.{Report}
 use Rattle.session.specs.Listing.{digits, decimal, three, header, reply-line, reply-lines, end-line}
 use Rattle.session.specs.Written.{Wrote, wrote, written}
 use Rattle.session.specs.Text.{Puts}
-use Rattle.runs.specs.Calls.{reply-at, replies-from}
+use Rattle.steps.specs.RunCalls.{reply-at, replies-from}
 
 -- ---- lengths
 

@@ -14,9 +14,9 @@ use Rattle.players.specs.Calls.{Done, left, whole, made-fresh}
 use Rattle.session.specs.declared.Report.{Report}
 use Rattle.session.specs.Runs.{run, words, filled}
 use Rattle.session.specs.Listing.{header, reply-lines, end-line, printed}
-use Rattle.runs.specs.Calls.{Finished, finished, encoded, ran, replies-from}
-use Rattle.runs.proofs.LoopLaws.{replies-filled}
-use Rattle.runs.proofs.FreshRuns.{counted, fresh-ran}
+use Rattle.steps.specs.RunCalls.{Finished, finished, encoded, ran, replies-from}
+use Rattle.steps.proofs.LoopLaws.{replies-filled}
+use Rattle.steps.proofs.FreshRuns.{counted, fresh-ran}
 
 -- a report and a list of words are those of the run that the program prints
 pub record Told (session : List ℕ) (report : Report) (list : List ℕ) : Type 0 where

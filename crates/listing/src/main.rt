@@ -7,7 +7,7 @@ ghost use Prim.Native.Nat.{_+_, _*_, _≤_};
 ghost use lib.ListN.{length, take};
 ghost use Rattle.session.specs.Listing.{header, reply-line, reply-lines, end-line, printed};
 ghost use Rattle.session.specs.Text.{Puts};
-ghost use Rattle.runs.specs.Calls.{reply-at, replies-from};
+ghost use Rattle.steps.specs.RunCalls.{reply-at, replies-from};
 
 // Puts the line of the reply that stands at a place of the list, and gives the place after it.
 fn reply_line(replies: &[u32], i: usize, out: &mut [u8], at: usize) -> usize
@@ -58,7 +58,7 @@ fn list(session: &[u8], out: &mut [u8]) -> usize
     let mut players = [0u32; 9473];
     let mut replies = [0u32; 16380];
     players::fresh(&mut store, &mut players);
-    let report = runs::run(&mut store, &mut players, session, 16384, &mut replies);
+    let report = steps::running::run(&mut store, &mut players, session, 16384, &mut replies);
     lines(report, &replies, out)
 }
 

@@ -3,6 +3,7 @@ pub mod Regions
 pub mod Tables
 pub mod FreshLaws
 pub mod CheckLaws
+pub mod StepCases
 pub mod Kept
 pub mod CallLaws
 pub mod PlayedLaws

@@ -11,3 +11,7 @@ pub mod LeavingLaws
 pub mod RespondLaws
 pub mod StoreStepLaws
 pub mod JoinLaws
+pub mod LoopLaws
+pub mod RunningLaws
+pub mod RanLaws
+pub mod FreshRuns

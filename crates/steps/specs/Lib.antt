@@ -2,3 +2,4 @@
 pub mod Calls
 pub mod RespondCalls
 pub mod StoreCalls
+pub mod RunCalls

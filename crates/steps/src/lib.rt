@@ -4,6 +4,7 @@ mod issuing;
 mod leaving;
 mod ownership;
 mod responding;
+pub mod running;
 mod store_steps;
 
 use players::Step;
@@ -32,7 +33,7 @@ fn issued(serial: u32) -> Reply
 }
 
 // A step on tables that are known to keep the rules: their lengths alone are tested.
-pub fn take(store: &mut [u32], players: &mut [u32], next: Step) -> Reply
+pub(crate) fn take(store: &mut [u32], players: &mut [u32], next: Step) -> Reply
     ensures { λ r. ⌜ Steps (λ s. step s next) (now (store .entry)) (now (players .entry)) r (now (store .exit)) (now (players .exit)) ⌝ }
 {
     if store.len() != 1280 {

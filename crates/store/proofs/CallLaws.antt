@@ -11,30 +11,21 @@ use lib.ListN.{length, getD, set, take, drop, length-set}
 use lib.Seq.{ext-getD, getD-set-same, getD-set-other}
 use mathlib.Core.Logic.{⊎-elim}
 use borrow.Author.Tests.{eq-eqb, ne-eqb, le-leb, lt-leb, lt-ltb, le-ltb, eqb-true, eqb-false}
-use Rattle.store.specs.Model.{Store, serials, put, unbroken, tablet-first, tablet-end, guarded, committed, with-boundary}
+use Rattle.store.specs.Model.{Store, serials, put, unbroken, tablet-first, tablet-end, committed, with-boundary}
 use Rattle.store.specs.Table.{part, seek, guardAt, storeOf, listed, tableOf, valid}
-use Rattle.store.specs.Walk.{Sets}
-use Rattle.store.specs.Calls.{reply, Result, result, refusal, bad-serial, Done, done, encoded, checked, called, Steps, install, read, commit, split, merge, restart}
+use Rattle.store.specs.Words.{tested, rebuilt, install-words, read-words, commit-words, split-words, merge-words, restart-words}
+use Rattle.store.specs.Calls.{reply, Result, result, refusal, bad-serial, Done, done, encoded, checked, called, Steps}
 use Rattle.store.specs.declared.Reply.{Reply}
 use Rattle.store.specs.declared.Range.{Range}
 use Rattle.store.proofs.Bools.{decide}
 use Rattle.store.proofs.Lists.{length-listed, getD-listed}
-use Rattle.store.proofs.Parts.{part-at, part-set, part-set-below, part-set-above, same-parts}
+use Rattle.store.proofs.Parts.{part-set, part-set-below, part-set-above, same-parts}
 use Rattle.store.proofs.Tables.{table-parts, valid-parts, table-store}
 
--- ---- the three ways a call ends
+-- ---- a call on any words
 
-pub wrong-length : (f : Store → Result) (t : List ℕ) → (length t ≡ 1280 → ⊥) → Steps f t (reply 21 0 0) t
-wrong-length f t h = record { wrong = λ _. refl; right = λ n w v. absurd (h w) }
-
-module _ (f : Store → Result) (t : List ℕ) (r : Reply) (w : length t ≡ 1280) where
-  -- the table stays
-  pub kept : f (storeOf t) ≡ result r (storeOf t) → Steps f t r t
-  kept e = record { wrong = λ h. absurd (h w); right = λ n _ v. rw (e, table-store n t w v) }
-
-  -- the table is another store's
-  pub changed : (t′ : List ℕ) (st : Store) → f (storeOf t) ≡ result r st → ((n : ℕ) → T (valid n t) → t′ ≡ tableOf st) → Steps f t r t′
-  changed t′ st e h = record { wrong = λ x. absurd (x w); right = λ n _ v. rw (e, h n v) }
+pub wrong-length : (w : List ℕ → Done) (t : List ℕ) → (length t ≡ 1280 → ⊥) → done (reply 21 0 0) t ≡ tested w t
+wrong-length w t h = rw (ne-eqb (length t) 1280 h)
 
 -- ---- one word set
 
@@ -93,25 +84,26 @@ module _ (t : List ℕ) (w : length t ≡ 1280) where
   bounds e = getD (take 256 t) e 0
 
   module _ (r : Range) (g : ℕ) where
-    pub install-empty : r .high ≤ r .low → Steps (install r g) t (reply 28 0 0) t
-    install-empty h = kept (install r g) t _ w (rw (le-ltb (r .low) (r .high) h))
+    pub install-empty : r .high ≤ r .low → done (reply 28 0 0) t ≡ tested (install-words r g) t
+    unfolding install-words
+    install-empty h = rw (eq-eqb (length t) 1280 w, le-ltb (r .low) (r .high) h)
 
-    pub install-long : r .low < r .high → 256 < r .high → Steps (install r g) t (reply 28 0 0) t
-    install-long h k = kept (install r g) t _ w (rw (lt-ltb (r .low) (r .high) h, lt-leb (r .high) 256 k))
+    pub install-long : r .low < r .high → 256 < r .high → done (reply 28 0 0) t ≡ tested (install-words r g) t
+    unfolding install-words
+    install-long h k = rw (eq-eqb (length t) 1280 w, lt-ltb (r .low) (r .high) h, lt-leb (r .high) 256 k)
 
-    pub install-across : r .low < r .high → r .high ≤ 256 → unbroken bounds (r .low + 1) (r .high - (r .low + 1)) ≡ false → Steps (install r g) t (reply 0 2 0) t
-    unfolding storeOf part
-    install-across h k u = kept (install r g) t _ w (rw (lt-ltb (r .low) (r .high) h, le-leb (r .high) 256 k, u))
+    pub install-across : r .low < r .high → r .high ≤ 256 → unbroken bounds (r .low + 1) (r .high - (r .low + 1)) ≡ false → done (reply 0 2 0) t ≡ tested (install-words r g) t
+    unfolding install-words storeOf part
+    install-across h k u = rw (eq-eqb (length t) 1280 w, lt-ltb (r .low) (r .high) h, le-leb (r .high) 256 k, u)
 
-    pub install-set : r .low < r .high → r .high ≤ 256 → unbroken bounds (r .low + 1) (r .high - (r .low + 1)) ≡ true → (t′ : List ℕ) → Sets (r .low) (r .high) g t t′ → Steps (install r g) t (reply 0 1 0) t′
-    unfolding storeOf part
-    install-set h k u t′ s =
-        changed (install r g) t _ w t′ (guarded (storeOf t) (r .low) (r .high) g) (rw (lt-ltb (r .low) (r .high) h, le-leb (r .high) 256 k, u)) (s .right)
+    pub install-set : r .low < r .high → r .high ≤ 256 → unbroken bounds (r .low + 1) (r .high - (r .low + 1)) ≡ true → (t′ : List ℕ) → t′ ≡ rebuilt (r .low) (r .high) g t → done (reply 0 1 0) t′ ≡ tested (install-words r g) t
+    unfolding install-words storeOf part
+    install-set h k u t′ s = rw (eq-eqb (length t) 1280 w, lt-ltb (r .low) (r .high) h, le-leb (r .high) 256 k, u, s)
 
   module _ (e : ℕ) (h : e < 256) where
-    pub read-is : Steps (read e) t (reply 0 (getD t (768 + e) 0) (getD t (1024 + e) 0)) t
-    unfolding storeOf
-    read-is = kept (read e) t _ w (rw (part-at 768 t e h, part-at 1024 t e h))
+    pub read-is : done (reply 0 (getD t (768 + e) 0) (getD t (1024 + e) 0)) t ≡ tested (read-words e) t
+    unfolding read-words
+    read-is = rw (eq-eqb (length t) 1280 w)
 
     -- the guard, as the code finds it
     abbrev pub found : ℕ
@@ -122,46 +114,45 @@ module _ (t : List ℕ) (w : length t ≡ 1280) where
     found-is = rw (lt-ltb e 256 h)
 
     module _ (v s g : ℕ) where
-      pub commit-zero : g ≡ 0 → Steps (commit e v s g) t (reply 0 2 0) t
-      commit-zero z = kept (commit e v s g) t _ w (rw (eq-eqb g 0 z))
+      pub commit-zero : g ≡ 0 → done (reply 0 2 0) t ≡ tested (commit-words e v s g) t
+      unfolding commit-words
+      commit-zero z = rw (eq-eqb (length t) 1280 w, eq-eqb g 0 z)
 
-      pub commit-other : (g ≡ 0 → ⊥) → (found ≡ g → ⊥) → Steps (commit e v s g) t (reply 0 2 0) t
-      commit-other z x = kept (commit e v s g) t _ w (rw (found-is, ne-eqb g 0 z, ne-eqb g found (λ y. x (sym y))))
+      pub commit-other : (g ≡ 0 → ⊥) → (found ≡ g → ⊥) → done (reply 0 2 0) t ≡ tested (commit-words e v s g) t
+      unfolding commit-words
+      commit-other z x = rw (eq-eqb (length t) 1280 w, found-is, ne-eqb g 0 z, ne-eqb g found (λ y. x (sym y)))
 
-      pub commit-same : (g ≡ 0 → ⊥) → found ≡ g → Steps (commit e v s g) t (reply 0 1 0) (set (set t (768 + e) s) (1024 + e) v)
-      commit-same z x =
-          changed (commit e v s g) t _ w _ (committed (storeOf t) e s v) (rw (found-is, ne-eqb g 0 z, eq-eqb g found (sym x)))
-          (λ n y. set-cell n t w y e h s v)
+      pub commit-same : (g ≡ 0 → ⊥) → found ≡ g → done (reply 0 1 0) (set (set t (768 + e) s) (1024 + e) v) ≡ tested (commit-words e v s g) t
+      unfolding commit-words
+      commit-same z x = rw (eq-eqb (length t) 1280 w, found-is, ne-eqb g 0 z, eq-eqb g found (sym x))
 
-    boundary-is : storeOf t .boundary e ≡ getD t e 0
-    unfolding storeOf
-    boundary-is = part-at 0 t e h ∙ ap (λ (i : ℕ). getD t i 0) (zero-add e)
+    pub split-first : e ≡ 0 → done (reply 28 0 0) t ≡ tested (split-words e) t
+    unfolding split-words
+    split-first z = rw (eq-eqb (length t) 1280 w, eq-eqb e 0 z)
 
-    pub split-first : e ≡ 0 → Steps (split e) t (reply 28 0 0) t
-    split-first z = kept (split e) t _ w (rw (eq-eqb e 0 z))
+    pub split-stands : (e ≡ 0 → ⊥) → getD t e 0 ≡ 1 → done (reply 35 0 0) t ≡ tested (split-words e) t
+    unfolding split-words
+    split-stands z x = rw (eq-eqb (length t) 1280 w, ne-eqb e 0 z, eq-eqb (getD t e 0) 1 x)
 
-    pub split-stands : (e ≡ 0 → ⊥) → getD t e 0 ≡ 1 → Steps (split e) t (reply 35 0 0) t
-    split-stands z x = kept (split e) t _ w (rw (boundary-is, ne-eqb e 0 z, eq-eqb (getD t e 0) 1 x))
+    pub split-set : (e ≡ 0 → ⊥) → (getD t e 0 ≡ 1 → ⊥) → done (reply 0 0 0) (set t e 1) ≡ tested (split-words e) t
+    unfolding split-words
+    split-set z x = rw (eq-eqb (length t) 1280 w, ne-eqb e 0 z, ne-eqb (getD t e 0) 1 x)
 
-    pub split-set : (e ≡ 0 → ⊥) → (getD t e 0 ≡ 1 → ⊥) → Steps (split e) t (reply 0 0 0) (set t e 1)
-    split-set z x =
-        changed (split e) t _ w _ (with-boundary (storeOf t) (put e 1 (storeOf t .boundary))) (rw (boundary-is, ne-eqb e 0 z, ne-eqb (getD t e 0) 1 x))
-        (λ n y. set-boundary n t w y e h 1)
+    pub merge-first : e ≡ 0 → done (reply 28 0 0) t ≡ tested (merge-words e) t
+    unfolding merge-words
+    merge-first z = rw (eq-eqb (length t) 1280 w, eq-eqb e 0 z)
 
-    pub merge-first : e ≡ 0 → Steps (merge e) t (reply 28 0 0) t
-    merge-first z = kept (merge e) t _ w (rw (eq-eqb e 0 z))
+    pub merge-none : (e ≡ 0 → ⊥) → getD t e 0 ≡ 0 → done (reply 35 0 0) t ≡ tested (merge-words e) t
+    unfolding merge-words
+    merge-none z x = rw (eq-eqb (length t) 1280 w, ne-eqb e 0 z, eq-eqb (getD t e 0) 0 x)
 
-    pub merge-none : (e ≡ 0 → ⊥) → getD t e 0 ≡ 0 → Steps (merge e) t (reply 35 0 0) t
-    merge-none z x = kept (merge e) t _ w (rw (boundary-is, ne-eqb e 0 z, eq-eqb (getD t e 0) 0 x))
+    pub merge-set : (e ≡ 0 → ⊥) → (getD t e 0 ≡ 0 → ⊥) → done (reply 0 0 0) (set t e 0) ≡ tested (merge-words e) t
+    unfolding merge-words
+    merge-set z x = rw (eq-eqb (length t) 1280 w, ne-eqb e 0 z, ne-eqb (getD t e 0) 0 x)
 
-    pub merge-set : (e ≡ 0 → ⊥) → (getD t e 0 ≡ 0 → ⊥) → Steps (merge e) t (reply 0 0 0) (set t e 0)
-    merge-set z x =
-        changed (merge e) t _ w _ (with-boundary (storeOf t) (put e 0 (storeOf t .boundary))) (rw (boundary-is, ne-eqb e 0 z, ne-eqb (getD t e 0) 0 x))
-        (λ n y. set-boundary n t w y e h 0)
-
-    pub restart-is : (lo hi : ℕ) → lo ≡ tablet-first bounds e → hi ≡ tablet-end bounds e (255 - e) → (t′ : List ℕ) → Sets lo hi 0 t t′ → Steps (restart e) t (reply 0 0 0) t′
-    unfolding storeOf part
-    restart-is lo hi el eh t′ s = changed (restart e) t _ w t′ (guarded (storeOf t) lo hi 0) (rw (el, eh)) (s .right)
+    pub restart-is : (lo hi : ℕ) → lo ≡ tablet-first bounds e → hi ≡ tablet-end bounds e (255 - e) → (t′ : List ℕ) → t′ ≡ rebuilt lo hi 0 t → done (reply 0 0 0) t′ ≡ tested (restart-words e) t
+    unfolding restart-words storeOf part
+    restart-is lo hi el eh t′ s = rw (eq-eqb (length t) 1280 w, s, el, eh)
 
 -- ---- calls that test the table first
 

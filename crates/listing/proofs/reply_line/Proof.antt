@@ -3,7 +3,7 @@
 use Prim.Native.Nat.{_+_}
 use Rattle.session.specs.Listing.{reply-line}
 use Rattle.listing.proofs.LineLaws.{reply-line-length, line-put}
-use Rattle.runs.specs.Calls.{reply-at}
+use Rattle.steps.specs.RunCalls.{reply-at}
 use borrow.Author.Needs.{needs}
 use Rattle.listing.proofs.reply_line.Statement.{statement}
 use Rattle.listing.proofs.reply_line.Tie as tie

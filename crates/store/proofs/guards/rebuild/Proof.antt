@@ -5,7 +5,7 @@ use mathlib.Core.Logic.{inl, inr}
 use native.Mathlib.Omega.{arith}
 use borrow.Author.Needs.{needs}
 use Rattle.store.specs.Table.{part}
-use Rattle.store.proofs.Rebuilt.{rebuilt-new, rebuilt-on}
+use Rattle.store.proofs.WordLaws.{new-words, on-words}
 use Rattle.store.proofs.guards.rebuild.Statement.{statement}
 use Rattle.store.proofs.guards.rebuild.Tie as tie
 
@@ -81,11 +81,8 @@ returns c =
     let d = e .before .before .before in
     let b = d .before .before .before .before in
     let a = b .args in
-    record {
-      right = λ n v.
-          c .before .before .replace .ensures
-          ∙ rebuilt-new (a .store .now) (b .pre .0) (a .low) (a .high) (a .guard) (b .pre .1) (b .pre .2) n v _ _ _ (d .find-place .ensures .0) (e .find-place2 .ensures .0) (f .find-place3 .ensures .0) (w .before .before .if1 .taken) (w .if2 .taken);
-    }
+    c .before .before .replace .ensures
+    ∙ new-words (a .store .now) (a .low) (a .high) (a .guard) _ _ _ (d .find-place .ensures .0) (e .find-place2 .ensures .0) (f .find-place3 .ensures .0) (w .before .before .if1 .taken) (w .if2 .taken)
 
 add-start : tie.Need-add-start
 add-start c = search needs
@@ -114,15 +111,12 @@ returns-2 c =
     let d = e .before .before .before in
     let b = d .before .before .before .before in
     let a = b .args in
-    record {
-      right = λ n v.
-          c .before .before .replace2 .ensures
-          ∙ rebuilt-on (a .store .now) (b .pre .0) (a .low) (a .high) (a .guard) (b .pre .1) (b .pre .2) n v _ _ _ (d .find-place .ensures .0) (e .find-place2 .ensures .0) (f .find-place3 .ensures .0)
-          (elim (w .if1 .came) [
-            | inl x ↦ λ _. x .2 .left
-            | inr x ↦ λ o. absurd (omega (arith, x .left, o))
-          ]);
-    }
+    c .before .before .replace2 .ensures
+    ∙ on-words (a .store .now) (a .low) (a .high) (a .guard) _ _ _ (d .find-place .ensures .0) (e .find-place2 .ensures .0) (f .find-place3 .ensures .0)
+    (elim (w .if1 .came) [
+      | inl x ↦ λ _. x .2 .left
+      | inr x ↦ λ o. absurd (omega (arith, x .left, o))
+    ])
 
 pub rebuild-spec : {M : Type 1} → statement M
 rebuild-spec =

@@ -17,7 +17,7 @@ use Rattle.players.specs.Calls.{whole, Done, checked}
 use Rattle.players.proofs.CallLaws.{same-tables, passed}
 use Rattle.session.specs.Mark.{mark, marked}
 use Rattle.session.specs.Runs.{report, longest, stopped, allowed, run-marked, run, whole-places}
-use Rattle.runs.specs.Calls.{Finished, finished, encoded, ran, Ready}
+use Rattle.steps.specs.RunCalls.{Finished, finished, encoded, ran, Ready}
 use Rattle.session.proofs.MarkLaws.{begins-take}
 use Rattle.session.proofs.WriteLaws.{take-whole}
 

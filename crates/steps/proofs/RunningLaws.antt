@@ -22,9 +22,9 @@ use Rattle.session.specs.declared.Decoded.{Decoded}
 use Rattle.session.specs.declared.Decoded.the-variants.{Record, Refused}
 use Rattle.session.specs.Records.{decode, Decodes, Bytes}
 use Rattle.session.specs.Runs.{report, Run, at-end, spent, stopped, took, run-from, filled}
-use Rattle.runs.specs.Calls.{finished, encoded, Ready}
+use Rattle.steps.specs.RunCalls.{finished, encoded, Ready}
 use Rattle.session.proofs.RoundTrip.{within, decoded-fits}
-use Rattle.runs.proofs.LoopLaws.{after, after-none, after-took, filled-more}
+use Rattle.steps.proofs.LoopLaws.{after, after-none, after-took, filled-more}
 
 -- ---- what stands at a place
 

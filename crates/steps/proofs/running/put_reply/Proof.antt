@@ -1,11 +1,11 @@
--- `runs::put_reply` meets its contract.
+-- `steps::running::put_reply` meets its contract.
 -- Assumes nothing.
 use native.Mathlib.Omega.{arith}
 use lib.ListN.{length-set}
 use borrow.Author.Needs.{needs}
-use Rattle.runs.proofs.LoopLaws.{put-three}
-use Rattle.runs.proofs.put_reply.Statement.{statement}
-use Rattle.runs.proofs.put_reply.Tie as tie
+use Rattle.steps.proofs.LoopLaws.{put-three}
+use Rattle.steps.proofs.running.put_reply.Statement.{statement}
+use Rattle.steps.proofs.running.put_reply.Tie as tie
 
 mul-list : tie.Need-mul-list
 mul-list c = search needs

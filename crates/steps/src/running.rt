@@ -9,7 +9,7 @@ ghost use lib.ListN.{length, drop};
 ghost use lib.Seq.{sets};
 ghost use Rattle.players.specs.Table.{stateOf};
 ghost use Rattle.session.specs.Runs.{report, allowed, run-from};
-ghost use Rattle.runs.specs.Calls.{finished, encoded, ran, Ready};
+ghost use Rattle.steps.specs.RunCalls.{finished, encoded, ran, Ready};
 
 // Puts a reply into three places of the list.
 fn put_reply(list: &mut [u32], at: usize, reply: Reply)
@@ -66,7 +66,7 @@ fn take(
         let decoded = found;
         match decoded {
             Decoded::Record { step, length } => {
-                let reply = steps::take(store, players, step);
+                let reply = crate::take(store, players, step);
                 put_reply(replies, 3 * taken, reply);
                 place += length;
                 taken += 1;

@@ -21,8 +21,8 @@ use Rattle.session.specs.declared.Decoded.the-variants.{Record, Refused}
 use Rattle.session.specs.Records.{decode}
 use Rattle.session.specs.Mark.{mark, marked}
 use Rattle.session.specs.Runs.{Run, at-end, stopped, took, on-record, run-from, allowed, run, longest, whole-places}
-use Rattle.runs.specs.Calls.{encoded, ran}
-use Rattle.runs.proofs.RanLaws.{allowed-few, ran-run}
+use Rattle.steps.specs.RunCalls.{encoded, ran}
+use Rattle.steps.proofs.RanLaws.{allowed-few, ran-run}
 
 -- ---- how many records a run takes
 

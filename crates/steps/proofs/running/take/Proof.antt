@@ -1,4 +1,4 @@
--- `runs::take` meets its contract.
+-- `steps::running::take` meets its contract.
 -- Assumes nothing.
 use mathlib.Core.Path.{_≡_, refl}
 use Prim.Native.Nat.{_-_}
@@ -8,10 +8,10 @@ use Rattle.players.specs.Table.{stateOf}
 use Rattle.session.specs.Runs.{run-from}
 use Rattle.session.specs.Records.{Bytes}
 use Rattle.session.proofs.RunLaws.{bytes-drop}
-use Rattle.runs.proofs.RunningLaws.{decoded-at, record-within, Running, running-begins, ends, is-spent, is-refused, one-more}
+use Rattle.steps.proofs.RunningLaws.{decoded-at, record-within, Running, running-begins, ends, is-spent, is-refused, one-more}
 use borrow.Author.Needs.{needs}
-use Rattle.runs.proofs.take.Statement.{statement}
-use Rattle.runs.proofs.take.Tie as tie
+use Rattle.steps.proofs.running.take.Statement.{statement}
+use Rattle.steps.proofs.running.take.Tie as tie
 
 abbrev Inv-loop : tie.InvT-loop
 Inv-loop store₀ players₀ session left replies₀ place₀ taken₀ store players replies place taken =

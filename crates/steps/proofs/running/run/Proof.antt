@@ -1,11 +1,11 @@
--- `runs::run` meets its contract: each ending by the tests that lead to it.
+-- `steps::running::run` meets its contract: each ending by the tests that lead to it.
 -- Assumes nothing.
 use mathlib.Core.Path.{sym, _∙_}
 use native.Mathlib.Omega.{arith}
-use Rattle.runs.proofs.RanLaws.{tables-refused, length-refused, mark-refused, ready, all-taken}
+use Rattle.steps.proofs.RanLaws.{tables-refused, length-refused, mark-refused, ready, all-taken}
 use borrow.Author.Needs.{needs}
-use Rattle.runs.proofs.run.Statement.{statement}
-use Rattle.runs.proofs.run.Tie as tie
+use Rattle.steps.proofs.running.run.Statement.{statement}
+use Rattle.steps.proofs.running.run.Tie as tie
 
 check-requires : tie.Need-check-requires
 check-requires c κs = search needs

@@ -1,8 +1,8 @@
--- `runs::allowed` meets its contract.
+-- `steps::running::allowed` meets its contract.
 -- Assumes nothing.
 use borrow.Author.Tests.{le-leb, lt-leb}
-use Rattle.runs.proofs.allowed.Statement.{statement}
-use Rattle.runs.proofs.allowed.Tie as tie
+use Rattle.steps.proofs.running.allowed.Statement.{statement}
+use Rattle.steps.proofs.running.allowed.Tie as tie
 
 returns : tie.Need-returns
 returns c = rw (le-leb (c .before .args .budget) (c .before .args .places) (c .if1 .taken))
