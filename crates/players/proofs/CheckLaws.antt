@@ -20,7 +20,8 @@ use Rattle.requests.proofs.Basics.{decide, both-left, both-right, cond-elim}
 use Rattle.players.specs.Replies.{refusal}
 use Rattle.players.specs.Rules.{fresh}
 use Rattle.players.specs.Calls.{left, whole, checked, made-fresh}
-use Rattle.players.specs.Table.{region, tableOf, valid-players, valid, cached-holds, cached-all}
+use Rattle.players.specs.Regions.{region}
+use Rattle.players.specs.Table.{players-words, tableOf, valid-players, valid, cached-holds, cached-all}
 
 -- ---- cached values
 
@@ -48,12 +49,12 @@ module _ (n g v x : ℕ) where
 drop-next : (l : List ℕ) (i : ℕ) → i < length l → drop i l ≡ getD l i 0 ∷ drop (i + 1) l
 drop-next l i h = rw (add-one, drop-cons l i 0)
 
-module _ (n : ℕ) (t : List ℕ) (l : length t ≡ 9473) (i : ℕ) where
+module _ (n : ℕ) (t : List ℕ) (l : length t ≡ players-words) (i : ℕ) where
   -- a column of 2,048 words
   abbrev pub column : ℕ → List ℕ
   column b = take 2048 (drop b t)
 
-  length-column : (b : ℕ) → b + 2048 ≤ 9473 → length (column b) ≡ 2048
+  length-column : (b : ℕ) → b + 2048 ≤ players-words → length (column b) ≡ 2048
   length-column b h = length-take-le 2048 (drop b t) (rw length-drop (omega arith))
 
   column-at : (b : ℕ) → i < 2048 → getD (column b) i 0 ≡ getD t (b + i) 0
@@ -131,15 +132,15 @@ module _ (st t : List ℕ) where
   pub store-short : (length st ≡ 1280 → ⊥) → false ≡ whole st t
   store-short h = rw (ne-eqb (length st) 1280 h)
 
-  pub players-length : length st ≡ 1280 → eqb (length t) 9473 ≡ whole st t
+  pub players-length : length st ≡ 1280 → eqb (length t) players-words ≡ whole st t
   players-length h = rw (eq-eqb (length st) 1280 h)
 
 module _ (st t : List ℕ) (w : whole st t ≡ true) where
   pub store-long : length st ≡ 1280
-  store-long = eqb-true (length st) 1280 (both-left (eqb (length st) 1280) (eqb (length t) 9473) w)
+  store-long = eqb-true (length st) 1280 (both-left (eqb (length st) 1280) (eqb (length t) players-words) w)
 
-  pub players-long : length t ≡ 9473
-  players-long = eqb-true (length t) 9473 (both-right (eqb (length st) 1280) (eqb (length t) 9473) w)
+  pub players-long : length t ≡ players-words
+  players-long = eqb-true (length t) players-words (both-right (eqb (length st) 1280) (eqb (length t) players-words) w)
 
   -- the store's test, and then the players'
   module _ (r : Reply) (e : r ≡ checked-store (getD t 0 0) st) where

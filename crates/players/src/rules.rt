@@ -1,7 +1,7 @@
 // The rules of the players' table, tested.
 ghost use mathlib.Core.Path.{_≡_};
 ghost use lib.ListN.{length, getD, take, drop};
-ghost use Rattle.players.specs.Table.{cached-holds, cached-all, valid-players};
+ghost use Rattle.players.specs.Table.{players-words, cached-holds, cached-all, valid-players};
 
 // Whether a cached value keeps the rules.
 fn value_holds(last: u32, guard: u32, version: u32, value: u32) -> bool
@@ -24,7 +24,7 @@ fn value_holds(last: u32, guard: u32, version: u32, value: u32) -> bool
 
 // Whether each cached value keeps the rules.
 fn values_hold(players: &[u32]) -> bool
-    requires { ⌜ length (now players) ≡ 9473 ⌝ }
+    requires { ⌜ length (now players) ≡ players-words ⌝ }
     ensures { λ r. ⌜ r ≡ cached-all (getD (now (players .entry)) 0 0) (take 2048 (drop 2561 (now (players .entry)))) (take 2048 (drop 4609 (now (players .entry)))) (take 2048 (drop 6657 (now (players .entry)))) ⌝ }
 {
     let last = players[0];
@@ -45,7 +45,7 @@ fn values_hold(players: &[u32]) -> bool
 
 // Whether a players' table keeps the rules.
 pub(crate) fn players_hold(players: &[u32]) -> bool
-    requires { ⌜ length (now players) ≡ 9473 ⌝ }
+    requires { ⌜ length (now players) ≡ players-words ⌝ }
     ensures { λ r. ⌜ r ≡ valid-players (now (players .entry)) ⌝ }
 {
     let last = players[0];

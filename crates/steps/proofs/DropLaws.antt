@@ -3,22 +3,20 @@
 use mathlib.Core.Path.{_≡_, refl, sym, ap, _∙_}
 use mathlib.Core.Logic.{⊎-elim}
 use mathlib.Core.Bool.{Bool, true, false, cond, _&&_, and-false}
-use mathlib.Core.List.{List}
 use Prim.Native.Nat.{ℕ, zero, suc, _+_, _*_, _≤_, _<_}
 use native.Mathlib.Nat.{add-zero, add-suc}
 use native.Mathlib.Omega.{arith}
 use lib.Dec.{leb, ltb, eqb}
-use lib.ListN.{getD, set, length-set}
+use lib.ListN.{getD, set}
 use borrow.Author.Tests.{eq-eqb, ne-eqb, eqb-true, eqb-false, leb-true, leb-false, ltb-true, ltb-false}
 use Rattle.store.specs.Model.{within, put}
 use Rattle.requests.proofs.Basics.{decide, passed-over}
 use Rattle.players.specs.Rules.{Cached, empty, Player, State, cleared-of, drop-guard}
-use Rattle.players.specs.Table.{cells, tableOf}
-use Rattle.players.proofs.Regions.{Sized, with-held, with-guards, with-versions, sized-held, sized-guards, sized-versions}
-use Rattle.players.proofs.Tables.{wordsIn, sized-state}
+use Rattle.players.specs.Table.{the-held, the-guards, the-versions, the-values, cells, tableOf}
+use Rattle.players.proofs.Regions.{made-set}
+use Rattle.players.proofs.Tables.{made-of}
 use Rattle.steps.specs.Calls.{caching, dropped}
 use Rattle.steps.proofs.RunLaws.{within-in, within-below, within-above, same-cells, set-cells, put-part}
-use Rattle.steps.proofs.TableLaws.{set-held, set-guards, set-versions, set-values}
 use Rattle.steps.proofs.StateLaws.{held-word, field-cond}
 
 -- the state with these players
@@ -51,20 +49,13 @@ module _ (s : State) (f : ℕ → Player) (p e : ℕ) (hp : p < 8) (he : e < 256
   cell-cleared : caching (p * 256 + e) 0 0 0 (set (tableOf (with-players s f)) (513 + (p * 256 + e)) 0) ≡ tableOf (with-players s (at-cell f p e))
   unfolding caching tableOf
   cell-cleared =
-      let w = wordsIn (with-players s f) in
-      let z : Sized w = sized-state (with-players s f) in
       let i : ℕ = p * 256 + e in
       let h : i < 2048 = omega arith in
-      let hs : List ℕ = set (w .held) i 0 in
-      let gs : List ℕ = set (w .guards) i 0 in
-      let vs : List ℕ = set (w .versions) i 0 in
-      let z₁ : Sized (with-held w hs) = sized-held z hs (length-set (w .held) i 0 ∙ z .held) in
-      let z₂ : Sized (with-guards (with-held w hs) gs) = sized-guards z₁ gs (length-set (w .guards) i 0 ∙ z .guards) in
-      let z₃ : Sized (with-versions (with-guards (with-held w hs) gs) vs) = sized-versions z₂ vs (length-set (w .versions) i 0 ∙ z .versions) in
-      ap (λ (t : List ℕ). set (set (set t (2561 + i) 0) (4609 + i) 0) (6657 + i) 0) (set-held w z i 0 h)
-      ∙ ap (λ (t : List ℕ). set (set t (4609 + i) 0) (6657 + i) 0) (set-guards (with-held w hs) z₁ i 0 h)
-      ∙ ap (λ (t : List ℕ). set t (6657 + i) 0) (set-versions (with-guards (with-held w hs) gs) z₂ i 0 h)
-      ∙ set-values (with-versions (with-guards (with-held w hs) gs) vs) z₃ i 0 h
+      let m₁ = made-set (made-of (with-players s f)) the-held i 0 tt h in
+      let m₂ = made-set m₁ the-guards i 0 tt h in
+      let m₃ = made-set m₂ the-versions i 0 tt h in
+      let m₄ = made-set m₃ the-values i 0 tt h in
+      m₄ .is
       ∙ rw (set-cells (λ q x. f q .held x) p e 0 hp he, cached-cell (λ c. c .guard) refl, cached-cell (λ c. c .version) refl, cached-cell (λ c. c .value) refl)
 
 -- ---- the walk

@@ -12,7 +12,7 @@ use Rattle.store.specs.Table.{tableOf as store-table}
 use Rattle.store.proofs.Tables.{table-parts as store-parts}
 use Rattle.requests.proofs.Basics.{is-true, cond-elim}
 use Rattle.players.specs.Rules.{State, step, fresh}
-use Rattle.players.specs.Table.{tableOf, valid}
+use Rattle.players.specs.Table.{players-words, tableOf, valid}
 use Rattle.players.specs.Calls.{whole}
 use Rattle.players.proofs.Tables.{length-of, state-table, ok-fresh}
 use Rattle.players.proofs.Kept.{fresh-valid}
@@ -63,6 +63,6 @@ pub fresh-ran : (session : List ℕ) (budget : ℕ) (list : List ℕ)
 fresh-ran session budget list =
     let st = store-table (fresh .store) in
     let t = tableOf fresh in
-    let w : whole st t ≡ true = rw (eq-eqb (length st) 1280 (store-parts (fresh .store) .whole), eq-eqb (length t) 9473 (length-of fresh)) in
+    let w : whole st t ≡ true = rw (eq-eqb (length st) 1280 (store-parts (fresh .store) .whole), eq-eqb (length t) players-words (length-of fresh)) in
     ran-run st t session budget list w (is-true (valid st t) fresh-valid)
     ∙ ap (λ (s : State). encoded list (run s session budget (whole-places list))) (state-table fresh ok-fresh)

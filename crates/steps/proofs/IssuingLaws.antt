@@ -23,7 +23,7 @@ use Rattle.requests.proofs.RegionLaws.{crossed-region}
 use Rattle.players.specs.declared.Step.the-variants.{RequestGuard, Read, Write}
 use Rattle.players.specs.Replies.{refusal, issued, cache-read}
 use Rattle.players.specs.Rules.{empty, State, Result, with-player, with-requests, every, all-entries, owns, live, cleared as cleared-player, request-guard, cache-hit, read-from-store, write, with-cached, step}
-use Rattle.players.specs.Table.{tableOf}
+use Rattle.players.specs.Table.{players-words, tableOf}
 use Rattle.players.proofs.Tables.{Ok}
 use Rattle.steps.specs.Calls.{Moves, live-guard, hit, all-are, added, caching, cleared}
 use Rattle.steps.proofs.StateLaws.{part-of, owner-word, version-word, value-word, live-state, hit-state, requests-put, added-state, cached-put, cleared-put}
@@ -41,7 +41,7 @@ module _ {t : List ℕ} {s : State} (o : Ok s) (y : t ≡ tableOf s) where
 
 -- ---- 4 read
 
-module _ (t : List ℕ) (l : length t ≡ 9473) (p e : ℕ) where
+module _ (t : List ℕ) (l : length t ≡ players-words) (p e : ℕ) where
   abbrev f : State → Result
   f s = step s (Read p e)
 
@@ -96,7 +96,7 @@ module _ (s : State) (p e : ℕ) where
   live-is : (g : ℕ) → g ≡ cond (live s p e) (s .player p .held e) 0 → (g ≡ 0 → ⊥) → (live s p e ≡ true) × (g ≡ s .player p .held e)
   live-is g h n = ⊎-elim (λ y. (y, rw y at h)) (λ y. absurd (n (rw y at h))) (decide (live s p e))
 
-module _ (t : List ℕ) (l : length t ≡ 9473) (p e v : ℕ) where
+module _ (t : List ℕ) (l : length t ≡ players-words) (p e v : ℕ) where
   abbrev w : State → Result
   w s = step s (Write p e v)
 
@@ -160,7 +160,7 @@ unfolding all-are
 owned-words s p lo zero h = refl
 owned-words s p lo (suc n) h = rw (owner-word s lo (omega arith), ← add-suc 1 lo, owned-words s p (suc lo) n (omega arith))
 
-module _ (t : List ℕ) (l : length t ≡ 9473) (p : ℕ) (g : Range) where
+module _ (t : List ℕ) (l : length t ≡ players-words) (p : ℕ) (g : Range) where
   abbrev a : State → Result
   a s = step s (RequestGuard p g)
 

@@ -19,7 +19,7 @@ use Rattle.requests.proofs.Rising.{find-elim}
 use Rattle.players.specs.declared.Step.the-variants.{Assign, Release, RequestGuard, Read, Write, Respond, Abandon, Lose, RestartPlayer}
 use Rattle.players.specs.Replies.{refusal, no-place-left, no-serial-left, no-such-request}
 use Rattle.players.specs.Rules.{State, Result, check, need-serial, need-place, on-request, all-entries, owns, live, cache, set-owner, request-guard, cache-hit, read-from-cache, read-from-store, write, respond-guard-request, respond-read, respond-write, respond, abandon, lose, restart-player, may-cache, still-owned, step}
-use Rattle.players.specs.Table.{stateOf}
+use Rattle.players.specs.Table.{players-words, stateOf}
 use Rattle.players.specs.Calls.{left, whole, Steps}
 use Rattle.players.proofs.CheckLaws.{store-long, players-long}
 use Rattle.players.proofs.Tables.{store-table-back}
@@ -125,11 +125,11 @@ module _ (s : State) where
 -- ---- the lengths
 
 module _ (st t : List ℕ) where
-  pub both-long : length st ≡ 1280 → length t ≡ 9473 → whole st t ≡ true
-  both-long h k = rw (eq-eqb (length st) 1280 h, eq-eqb (length t) 9473 k)
+  pub both-long : length st ≡ 1280 → length t ≡ players-words → whole st t ≡ true
+  both-long h k = rw (eq-eqb (length st) 1280 h, eq-eqb (length t) players-words k)
 
   pub store-wrong : (length st ≡ 1280 → ⊥) → whole st t ≡ false
   store-wrong h = rw (ne-eqb (length st) 1280 h)
 
-  pub players-wrong : length st ≡ 1280 → (length t ≡ 9473 → ⊥) → whole st t ≡ false
-  players-wrong h k = rw (eq-eqb (length st) 1280 h, ne-eqb (length t) 9473 k)
+  pub players-wrong : length st ≡ 1280 → (length t ≡ players-words → ⊥) → whole st t ≡ false
+  players-wrong h k = rw (eq-eqb (length st) 1280 h, ne-eqb (length t) players-words k)

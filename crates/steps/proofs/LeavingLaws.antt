@@ -19,7 +19,7 @@ use Rattle.requests.proofs.RegionLaws.{Stands, nowhere-region, found-stands, fo
 use Rattle.players.specs.declared.Step.the-variants.{Abandon, Lose, RestartPlayer}
 use Rattle.players.specs.Replies.{refusal}
 use Rattle.players.specs.Rules.{fresh-player, State, Result, with-requests, with-player, removed, on-request, abandon, lose, restart-player, step}
-use Rattle.players.specs.Table.{tableOf}
+use Rattle.players.specs.Table.{players-words, tableOf}
 use Rattle.players.proofs.Tables.{Ok}
 use Rattle.steps.specs.Calls.{Moves, giving-up, cleared, dropped}
 use Rattle.steps.proofs.RunLaws.{within-in}
@@ -29,7 +29,7 @@ use Rattle.steps.proofs.MoveLaws.{result, moves, refused, part-is}
 
 -- ---- a step that names a request
 
-module _ (n : ℕ) (f : Request → Bool) (go : State → Request → Result) (t : List ℕ) (l : length t ≡ 9473) where
+module _ (n : ℕ) (f : Request → Bool) (go : State → Request → Result) (t : List ℕ) (l : length t ≡ players-words) where
   abbrev on : State → Result
   on s = on-request s n f (go s)
 
@@ -74,7 +74,7 @@ module _ {t : List ℕ} {s : State} (o : Ok s) (y : t ≡ tableOf s) {k : ℕ} {
 
 -- ---- 9 lose
 
-pub lose-moves : (n : ℕ) (t : List ℕ) → length t ≡ 9473 → (k : ℕ) (q : Request) → At k q ≡ found n (take 768 (drop 8705 t)) → q .abandoned ≡ true → (c : List ℕ) → c ≡ without k (take 768 (drop 8705 t))
+pub lose-moves : (n : ℕ) (t : List ℕ) → length t ≡ players-words → (k : ℕ) (q : Request) → At k q ≡ found n (take 768 (drop 8705 t)) → q .abandoned ≡ true → (c : List ℕ) → c ≡ without k (take 768 (drop 8705 t))
     → (r : Reply) → r ≡ refusal 0 → Moves (λ s. step s (Lose n)) t r (putMid 8705 768 t c)
 lose-moves n t l k q e b c ec r er =
     fit-moves n (λ q. q .abandoned) lose t l k q e b r _ (λ s o y x. (er, removed-put o y x c ec))
@@ -91,7 +91,7 @@ module _ (k : ℕ) (t c : List ℕ) where
   unfolding giving-up
   give-up-abandoned ec d ed = rw (ec, ed)
 
-module _ (n : ℕ) (t : List ℕ) (l : length t ≡ 9473) (k : ℕ) (q : Request) (e : At k q ≡ found n (take 768 (drop 8705 t))) (b : q .abandoned ≡ false) (t₁ : List ℕ) (e₁ : t₁ ≡ giving-up k (q .delivered) t) where
+module _ (n : ℕ) (t : List ℕ) (l : length t ≡ players-words) (k : ℕ) (q : Request) (e : At k q ≡ found n (take 768 (drop 8705 t))) (b : q .abandoned ≡ false) (t₁ : List ℕ) (e₁ : t₁ ≡ giving-up k (q .delivered) t) where
   waits : pending q ≡ true
   waits = rw b
 
@@ -118,7 +118,7 @@ module _ (n : ℕ) (t : List ℕ) (l : length t ≡ 9473) (k : ℕ) (q : Request
 
 -- ---- 13 restart a player
 
-module _ (t : List ℕ) (l : length t ≡ 9473) (p : ℕ) where
+module _ (t : List ℕ) (l : length t ≡ players-words) (p : ℕ) where
   pub restart-refused : 7 < p → (r : Reply) → r ≡ refusal 28 → Moves (λ s. step s (RestartPlayer p)) t r t
   restart-refused h r er = refused (λ s. step s (RestartPlayer p)) t l 28 r er (λ s _ _. rw (le-leb 8 p h))
 

@@ -15,7 +15,7 @@ use Rattle.requests.specs.Calls.{scanned, full}
 use Rattle.requests.proofs.RegionLaws.{scanned-region, full-region}
 use Rattle.players.specs.Replies.{refusal}
 use Rattle.players.specs.Rules.{State, Result}
-use Rattle.players.specs.Table.{last-word, stateOf, tableOf}
+use Rattle.players.specs.Table.{players-words, last-word, stateOf, tableOf}
 use Rattle.players.proofs.Tables.{Ok, ok-tables, players-table-back, last-of}
 use Rattle.steps.specs.Calls.{Moves}
 use Rattle.steps.proofs.StateLaws.{part-of}
@@ -23,7 +23,7 @@ use Rattle.steps.proofs.StateLaws.{part-of}
 abbrev pub result : State → Reply → Result
 result s r = record { state = s; reply = r }
 
-module _ (f : State → Result) (t : List ℕ) (l : length t ≡ 9473) (r : Reply) where
+module _ (f : State → Result) (t : List ℕ) (l : length t ≡ players-words) (r : Reply) where
   -- the table becomes another state's
   pub moves : (t′ : List ℕ) → ((s : State) → Ok s → t ≡ tableOf s → (r ≡ f s .reply) × (t′ ≡ tableOf (f s .state))) → Moves f t r t′
   moves t′ m = record { moved = λ st ls v. m (stateOf st t) (ok-tables st t v ls l) (sym (players-table-back st t v ls l)) }
@@ -37,7 +37,7 @@ module _ (f : State → Result) (t : List ℕ) (l : length t ≡ 9473) (r : Repl
       (ap (λ (x : Result). x .reply) (sym y), e ∙ ap (λ (x : Result). tableOf (x .state)) (sym y)))
 
 -- it stays as it is, and the step is refused
-pub refused : (f : State → Result) (t : List ℕ) → length t ≡ 9473 → (n : ℕ) (r : Reply) → r ≡ refusal n → ((s : State) → Ok s → t ≡ tableOf s → f s ≡ result s (refusal n)) → Moves f t r t
+pub refused : (f : State → Result) (t : List ℕ) → length t ≡ players-words → (n : ℕ) (r : Reply) → r ≡ refusal n → ((s : State) → Ok s → t ≡ tableOf s → f s ≡ result s (refusal n)) → Moves f t r t
 refused f t l n r e m = rw e (stays f t l (refusal n) m)
 
 -- two ways to say what a step does

@@ -16,8 +16,9 @@ use Rattle.steps.specs.Calls.{Moves, own, filled}
 use Rattle.steps.proofs.WordLaws.{fill-part, length-filled}
 use Rattle.steps.proofs.StateLaws.{owners-put}
 use Rattle.steps.proofs.MoveLaws.{moves, refused, same-step, last-is}
+use Rattle.players.specs.Table.{players-words}
 
-module _ (t : List ℕ) (l : length t ≡ 9473) (p : ℕ) (g : Range) where
+module _ (t : List ℕ) (l : length t ≡ players-words) (p : ℕ) (g : Range) where
   pub own-empty : g .high ≤ g .low → (r : Reply) → r ≡ refusal 28 → Moves (own p g) t r t
   own-empty h r e = refused (own p g) t l 28 r e (λ s _ _. rw (le-ltb (g .low) (g .high) h))
 
@@ -48,9 +49,9 @@ module _ (t : List ℕ) (l : length t ≡ 9473) (p : ℕ) (g : Range) where
         own-done e₁ e₂ r er =
             let lo = g .low in
             let hi = g .high in
-            let l₀ : length (set t 0 n) ≡ 9473 = length-set t 0 n ∙ l in
+            let l₀ : length (set t 0 n) ≡ players-words = length-set t 0 n ∙ l in
             let f₁ : u₁ ≡ filled 1 lo hi p (set t 0 n) = fill-part 1 lo hi p (set t 0 n) z₁ (omega arith) (omega arith) e₁ in
-            let l₁ : length u₁ ≡ 9473 = ap length f₁ ∙ length-filled 1 lo hi p (set t 0 n) (omega arith) (omega arith) ∙ l₀ in
+            let l₁ : length u₁ ≡ players-words = ap length f₁ ∙ length-filled 1 lo hi p (set t 0 n) (omega arith) (omega arith) ∙ l₀ in
             let f₂ : putMid (257 + lo) (257 + hi - (257 + lo)) u₁ z₂ ≡ filled 257 lo hi n (filled 1 lo hi p (set t 0 n)) = fill-part 257 lo hi n u₁ z₂ (omega arith) (omega arith) e₂ ∙ ap (filled 257 lo hi n) f₁ in
             moves (own p g) t l r _
             (λ s o y.

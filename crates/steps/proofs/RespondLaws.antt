@@ -24,7 +24,7 @@ use Rattle.requests.proofs.RegionLaws.{stands-in}
 use Rattle.players.specs.declared.Step.the-variants.{Respond}
 use Rattle.players.specs.Replies.{refusal, granted as grants, not-held, layout-changed, store-read, committed, rejected}
 use Rattle.players.specs.Rules.{Cached, State, removed, every, owns, live, may-cache, with-cached, cache, still-owned, respond-guard-request, respond-read, respond-write, respond, step}
-use Rattle.players.specs.Table.{tableOf}
+use Rattle.players.specs.Table.{players-words, tableOf}
 use Rattle.steps.specs.Calls.{Moves, live-guard, caching, filled, dropped}
 use Rattle.steps.specs.RespondCalls.{Responds, owning, still-owning, cacheable, remembering}
 use Rattle.steps.proofs.StateLaws.{owner-word, epoch-word, live-state, granted, cached-put}
@@ -216,7 +216,7 @@ module _ (r : Request) (t : List ℕ) (x : Reply) (t′ : List ℕ) where
 abbrev pub fits : Request → Bool
 fits r = r .delivered && pending r
 
-module _ (t : List ℕ) (l : length t ≡ 9473) (n : ℕ) where
+module _ (t : List ℕ) (l : length t ≡ players-words) (n : ℕ) where
   pub respond-nowhere : Nowhere ≡ found n (take 768 (drop 8705 t)) → (x : Reply) → x ≡ refusal 32 → Moves (λ s. step s (Respond n)) t x t
   respond-nowhere e x ex = nowhere-moves n fits respond t l e x ex
 

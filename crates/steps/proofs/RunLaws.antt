@@ -17,7 +17,8 @@ use Rattle.store.specs.Table.{listed}
 use Rattle.store.proofs.Lists.{length-listed, getD-listed}
 use Rattle.requests.proofs.Basics.{decide, clash, both-left, both-right}
 use Rattle.players.specs.Rules.{Player}
-use Rattle.players.specs.Table.{region, cells}
+use Rattle.players.specs.Regions.{region}
+use Rattle.players.specs.Table.{cells}
 use Rattle.players.proofs.Tables.{length-cells}
 use Rattle.steps.specs.Calls.{filled}
 

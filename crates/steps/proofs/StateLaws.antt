@@ -8,7 +8,7 @@ use Prim.Native.Nat.{ℕ, _+_, _*_, _≤_, _<_}
 use native.Mathlib.Nat.{zero-add}
 use native.Mathlib.Omega.{arith}
 use lib.Dec.{eqb}
-use lib.ListN.{length, getD, take, drop, set, length-set}
+use lib.ListN.{length, getD, take, drop, set}
 use borrow.Author.Tests.{eq-eqb, ne-eqb, eqb-true, eqb-false}
 use borrow.Rule.Slice.PartMut.{putMid}
 use Rattle.store.specs.Model.{put, fill, within}
@@ -20,14 +20,16 @@ use Rattle.requests.specs.Model.{places}
 use Rattle.requests.specs.Region.{regionOf}
 use Rattle.requests.specs.Calls.{with-request}
 use Rattle.requests.proofs.Basics.{decide, cond-elim}
+use Rattle.requests.proofs.Placed.{length-placed}
 use Rattle.requests.proofs.RegionLaws.{append-region}
 use Rattle.players.specs.Rules.{Cached, empty, Player, State, with-requests, with-player, issue, live, set-owner, cache-hit, grant, with-cached}
-use Rattle.players.specs.Table.{region, cells, tableOf}
-use Rattle.players.proofs.Regions.{region-at, table, Sized, with-owners, with-held, with-guards, with-versions, with-values, sized-owners, sized-held, sized-guards, sized-versions, put-requests}
-use Rattle.players.proofs.Tables.{wordsIn, sized-state, tableOf-is, owners-of, epochs-of, held-of, guards-of, versions-of, values-of, requests-of}
+use Rattle.players.specs.Regions.{region, joined}
+use Rattle.players.specs.Table.{the-owners, the-epochs, the-held, the-guards, the-versions, the-values, the-requests, cells, regions, tableOf}
+use Rattle.players.proofs.Regions.{region-at, made-put, made-set}
+use Rattle.players.proofs.Tables.{made-of, owners-of, epochs-of, held-of, guards-of, versions-of, values-of, requests-of}
 use Rattle.steps.specs.Calls.{live-guard, hit, added, caching, filled, cleared}
-use Rattle.steps.proofs.RunLaws.{run, length-run, run-listed, cells-at, same-cells, set-cells, run-cells, put-part, keep-part}
-use Rattle.steps.proofs.TableLaws.{set-guards, set-versions, set-values, fill-owners, fill-epochs, fill-held, fill-guards, fill-versions, fill-values}
+use Rattle.steps.proofs.RunLaws.{run, run-listed, cells-at, same-cells, set-cells, run-cells, put-part, keep-part}
+use Rattle.steps.proofs.TableLaws.{made-fill}
 
 -- ---- what is read
 
@@ -86,7 +88,7 @@ part-of s = requests-of s
 
 pub requests-put : (s : State) (q : List ℕ) (rs : List Request) → q ≡ regionOf rs → putMid 8705 768 (tableOf s) q ≡ tableOf (with-requests s rs)
 unfolding tableOf
-requests-put s q rs e = rw e (put-requests (wordsIn s) (sized-state s) (regionOf rs))
+requests-put s q rs e = rw e (made-put (made-of s) the-requests tt (regionOf rs) (length-placed places rs) .is)
 
 pub issue-put : (s : State) (n : ℕ) → n ≡ s .last + 1 → set (tableOf s) 0 n ≡ tableOf (issue s)
 unfolding tableOf
@@ -107,14 +109,8 @@ unfolding tableOf
 owners-put s p n g e a h =
     let lo = g .low in
     let hi = g .high in
-    let w = wordsIn (issue s) in
-    let z : Sized w = sized-state (issue s) in
-    let os : List ℕ = run lo hi p (w .owners) in
-    let lo-is : length os ≡ 256 = length-run lo hi p (w .owners) a (omega (arith, z .owners)) ∙ z .owners in
-    rw e
-    (ap (filled 257 lo hi (s .last + 1)) (fill-owners w z lo hi p a h)
-    ∙ fill-epochs (with-owners w os) (sized-owners z os lo-is) lo hi (s .last + 1) a h
-    ∙ rw (run-listed (s .owners .owner) 256 lo hi p a h, run-listed (s .owners .epoch) 256 lo hi (s .last + 1) a h))
+    let m = made-fill (made-fill (made-of (issue s)) the-owners lo hi p tt a h) the-epochs lo hi (s .last + 1) tt a h in
+    rw e (m .is ∙ rw (run-listed (s .owners .owner) 256 lo hi p a h, run-listed (s .owners .epoch) 256 lo hi (s .last + 1) a h))
 
 -- ---- one player
 
@@ -124,7 +120,7 @@ module _ (s : State) (p : ℕ) (pl : Player) where
       → gs ≡ cells (λ q x. put p pl (s .player) q .cached x .guard)
       → vs ≡ cells (λ q x. put p pl (s .player) q .cached x .version)
       → xs ≡ cells (λ q x. put p pl (s .player) q .cached x .value)
-      → table (with-values (with-versions (with-guards (with-held (wordsIn s) hs) gs) vs) xs) ≡ tableOf (with-player s p pl)
+      → joined (set (set (set (set (regions s) the-held hs) the-guards gs) the-versions vs) the-values xs) ≡ tableOf (with-player s p pl)
   unfolding tableOf
   player-table hs gs vs xs eh eg ev ex = rw (eh, eg, ev, ex)
 
@@ -157,19 +153,12 @@ module _ (s : State) (p : ℕ) (hp : p < 8) where
     pub cached-put : caching (p * 256 + e) (c .guard) (c .version) (c .value) (tableOf s) ≡ tableOf (with-cached s p e c)
     unfolding caching
     cached-put =
-        let w = wordsIn s in
-        let z : Sized w = sized-state s in
         let i : ℕ = p * 256 + e in
         let h : i < 2048 = omega arith in
-        let gs : List ℕ = set (w .guards) i (c .guard) in
-        let vs : List ℕ = set (w .versions) i (c .version) in
-        let z₁ : Sized (with-guards w gs) = sized-guards z gs (length-set (w .guards) i (c .guard) ∙ z .guards) in
-        let z₂ : Sized (with-versions (with-guards w gs) vs) = sized-versions z₁ vs (length-set (w .versions) i (c .version) ∙ z .versions) in
-        ap (λ (t : List ℕ). set (set (set t (2561 + i) (c .guard)) (4609 + i) (c .version)) (6657 + i) (c .value)) (tableOf-is s)
-        ∙ ap (λ (t : List ℕ). set (set t (4609 + i) (c .version)) (6657 + i) (c .value)) (set-guards w z i (c .guard) h)
-        ∙ ap (λ (t : List ℕ). set t (6657 + i) (c .value)) (set-versions (with-guards w gs) z₁ i (c .version) h)
-        ∙ set-values (with-versions (with-guards w gs) vs) z₂ i (c .value) h
-        ∙ player-table s p caches (w .held) gs vs _ (held-kept s p caches refl) (cell-set (λ d. d .guard)) (cell-set (λ d. d .version)) (cell-set (λ d. d .value))
+        let m₁ = made-set (made-of s) the-guards i (c .guard) tt h in
+        let m₂ = made-set m₁ the-versions i (c .version) tt h in
+        let m₃ = made-set m₂ the-values i (c .value) tt h in
+        m₃ .is ∙ player-table s p caches _ _ _ _ (held-kept s p caches refl) (cell-set (λ d. d .guard)) (cell-set (λ d. d .version)) (cell-set (λ d. d .value))
 
   -- guards over a range of entries
   module _ (lo hi : ℕ) (a : lo ≤ hi) (h : hi ≤ 256) where
@@ -181,11 +170,9 @@ module _ (s : State) (p : ℕ) (hp : p < 8) where
 
     pub granted : (n : ℕ) → filled 513 from to n (tableOf s) ≡ tableOf (grant s p lo hi n)
     granted n =
-        let w = wordsIn s in
         let pl : Player = record { held = fill lo hi n (s .player p .held); cached = s .player p .cached } in
-        ap (filled 513 from to n) (tableOf-is s)
-        ∙ fill-held w (sized-state s) from to n (omega arith) (omega arith)
-        ∙ player-table s p pl _ (w .guards) (w .versions) (w .values)
+        made-fill (made-of s) the-held from to n tt (omega arith) (omega arith) .is
+        ∙ player-table s p pl _ _ _ _
         (run-cells (λ q x. s .player q .held x) p lo hi n hp a h ∙ held-changed s p pl (within lo hi) n (λ x _. refl))
         (cached-kept s p pl (λ d. d .guard) refl) (cached-kept s p pl (λ d. d .version) refl) (cached-kept s p pl (λ d. d .value) refl)
 
@@ -200,23 +187,12 @@ module _ (s : State) (p : ℕ) (hp : p < 8) where
       pub cleared-put : cleared from to (tableOf s) ≡ tableOf (with-player s p pl)
       unfolding cleared
       cleared-put =
-          let w = wordsIn s in
-          let z : Sized w = sized-state s in
           let b : from ≤ to = omega arith in
           let k : to ≤ 2048 = omega arith in
-          let hs : List ℕ = run from to 0 (w .held) in
-          let gs : List ℕ = run from to 0 (w .guards) in
-          let vs : List ℕ = run from to 0 (w .versions) in
-          let w₁ = with-held w hs in
-          let z₁ : Sized w₁ = sized-held z hs (length-run from to 0 (w .held) b (omega (arith, z .held)) ∙ z .held) in
-          let w₂ = with-guards w₁ gs in
-          let z₂ : Sized w₂ = sized-guards z₁ gs (length-run from to 0 (w .guards) b (omega (arith, z .guards)) ∙ z .guards) in
-          let w₃ = with-versions w₂ vs in
-          let z₃ : Sized w₃ = sized-versions z₂ vs (length-run from to 0 (w .versions) b (omega (arith, z .versions)) ∙ z .versions) in
-          ap (λ (t : List ℕ). filled 6657 from to 0 (filled 4609 from to 0 (filled 2561 from to 0 (filled 513 from to 0 t)))) (tableOf-is s)
-          ∙ ap (λ (t : List ℕ). filled 6657 from to 0 (filled 4609 from to 0 (filled 2561 from to 0 t))) (fill-held w z from to 0 b k)
-          ∙ ap (λ (t : List ℕ). filled 6657 from to 0 (filled 4609 from to 0 t)) (fill-guards w₁ z₁ from to 0 b k)
-          ∙ ap (λ (t : List ℕ). filled 6657 from to 0 t) (fill-versions w₂ z₂ from to 0 b k)
-          ∙ fill-values w₃ z₃ from to 0 b k
-          ∙ player-table s p pl hs gs vs _ (run-cells (λ q x. s .player q .held x) p lo hi 0 hp a h ∙ held-changed s p pl (within lo hi) 0 eh)
+          let m₁ = made-fill (made-of s) the-held from to 0 tt b k in
+          let m₂ = made-fill m₁ the-guards from to 0 tt b k in
+          let m₃ = made-fill m₂ the-versions from to 0 tt b k in
+          let m₄ = made-fill m₃ the-values from to 0 tt b k in
+          m₄ .is
+          ∙ player-table s p pl _ _ _ _ (run-cells (λ q x. s .player q .held x) p lo hi 0 hp a h ∙ held-changed s p pl (within lo hi) 0 eh)
           (run-cached (λ d. d .guard) refl) (run-cached (λ d. d .version) refl) (run-cached (λ d. d .value) refl)

@@ -24,12 +24,13 @@ use Rattle.requests.proofs.RegionLaws.{Stands, stands-in, found-stands, nowhere
 use Rattle.players.specs.declared.Step.the-variants.{Deliver, Split, Merge, RestartTablet}
 use Rattle.players.specs.Replies.{refusal, done, no-such-request}
 use Rattle.players.specs.Rules.{State, Result, with-requests, with-store, check, settled, deliver, step}
-use Rattle.players.specs.Table.{region, last-word, request-words, stateOf, tableOf, valid}
+use Rattle.players.specs.Regions.{region}
+use Rattle.players.specs.Table.{players-words, last-word, request-words, stateOf, tableOf, valid}
 use Rattle.players.specs.Calls.{left, encoded, whole}
-use Rattle.players.proofs.Regions.{put-requests}
 use Rattle.players.proofs.CallLaws.{same-tables}
-use Rattle.players.proofs.Tables.{wordsIn, sized-state, tableOf-is, rules, valid-store-words, valid-players-words, ok-tables, players-table-back}
+use Rattle.players.proofs.Tables.{rules, valid-store-words, valid-players-words, ok-tables, players-table-back}
 use Rattle.steps.specs.StoreCalls.{Shifts, Acts, performed, settled-words}
+use Rattle.steps.proofs.StateLaws.{requests-put}
 
 -- ---- the store's part of a state
 
@@ -150,10 +151,6 @@ module _ (k : ℕ) (abandoned : Bool) (a b : ℕ) (t q : List ℕ) where
   unfolding settled-words
   settle-delivered h e = rw (h, e)
 
-requests-put : (s : State) (rs : List Request) → putMid 8705 768 (tableOf s) (regionOf rs) ≡ tableOf (with-requests s rs)
-requests-put s rs =
-    ap (λ (t : List ℕ). putMid 8705 768 t (regionOf rs)) (tableOf-is s) ∙ put-requests (wordsIn s) (sized-state s) (regionOf rs) ∙ sym (tableOf-is (with-requests s rs))
-
 one-region : (b : Bool) (u v : List ℕ) (ds cs : List Request) → u ≡ regionOf ds → v ≡ regionOf cs → cond b u v ≡ regionOf (cond b ds cs)
 one-region true u v ds cs p q = p
 one-region false u v ds cs p q = q
@@ -163,9 +160,9 @@ one-region false u v ds cs p q = q
 not-yet : {A : Type 0} (b : Bool) (x y : A) → b ≡ false → cond (not b) x y ≡ x
 not-yet b x y e = rw e
 
-module _ (st t : List ℕ) (ls : length st ≡ 1280) (l : length t ≡ 9473) where
+module _ (st t : List ℕ) (ls : length st ≡ 1280) (l : length t ≡ players-words) where
   is-whole : whole st t ≡ true
-  is-whole = rw (eq-eqb (length st) 1280 ls, eq-eqb (length t) 9473 l)
+  is-whole = rw (eq-eqb (length st) 1280 ls, eq-eqb (length t) players-words l)
 
   words-are : T (valid st t) → take 768 (drop 8705 t) ≡ regionOf (stateOf st t .requests)
   unfolding stateOf region
@@ -219,7 +216,7 @@ module _ (st t : List ℕ) (ls : length st ≡ 1280) (l : length t ≡ 9473) whe
             ∙ ap (λ (w : List ℕ). putMid 8705 768 t w)
             (one-region (r .abandoned) _ _ ds cs (without-region (s .last) (s .requests) (o .few) (o .requests) it-stands) (delivered-region (s .last) (s .requests) (o .few) (o .requests) it-stands a b))
             ∙ ap (λ (u : List ℕ). putMid 8705 768 u (regionOf rs)) (sym (players-table-back st t v ls l))
-            ∙ requests-put s rs
+            ∙ requests-put s (regionOf rs) rs refl
             ∙ sym (same-players (with-requests s rs) x)
 
       pub deliver-unfit : r .delivered ≡ true → Acts (λ s. step s (Deliver n)) st t (refusal no-such-request) st t

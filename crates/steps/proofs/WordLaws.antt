@@ -12,6 +12,7 @@ use lib.Seq.{length-take-le}
 use borrow.Author.Tests.{eq-eqb, ne-eqb, lt-ltb, le-ltb}
 use borrow.Rule.Slice.PartMut.{putMid, same-len-mid}
 use Rattle.steps.specs.Calls.{live-guard, hit, all-are, caching, filled, cleared, dropped}
+use Rattle.players.specs.Table.{players-words}
 
 -- ---- what is read
 
@@ -81,7 +82,7 @@ length-filled b lo hi v t a h =
     same-len-mid (b + lo) (b + hi - (b + lo)) t (replicate (b + hi - (b + lo)) v) (length-replicate (b + hi - (b + lo)) v ∙ sym n)
 
 -- the four parts that are cleared
-module _ (lo hi : ℕ) (t z₁ z₂ z₃ z₄ : List ℕ) (l : length t ≡ 9473) (a : lo ≤ hi) (h : hi ≤ 2048) where
+module _ (lo hi : ℕ) (t z₁ z₂ z₃ z₄ : List ℕ) (l : length t ≡ players-words) (a : lo ≤ hi) (h : hi ≤ 2048) where
   abbrev lent : ℕ → List ℕ → List ℕ → List ℕ
   lent b u z = putMid (b + lo) (b + hi - (b + lo)) u z
 
@@ -101,11 +102,11 @@ module _ (lo hi : ℕ) (t z₁ z₂ z₃ z₄ : List ℕ) (l : length t ≡ 9473
   unfolding cleared
   clear-parts e₁ e₂ e₃ e₄ =
       let f₁ : u₁ ≡ filled 513 lo hi 0 t = fill-part 513 lo hi 0 t z₁ a (omega arith) e₁ in
-      let l₁ : length u₁ ≡ 9473 = ap length f₁ ∙ length-filled 513 lo hi 0 t a (omega arith) ∙ l in
+      let l₁ : length u₁ ≡ players-words = ap length f₁ ∙ length-filled 513 lo hi 0 t a (omega arith) ∙ l in
       let f₂ : u₂ ≡ filled 2561 lo hi 0 u₁ = fill-part 2561 lo hi 0 u₁ z₂ a (omega arith) e₂ in
-      let l₂ : length u₂ ≡ 9473 = ap length f₂ ∙ length-filled 2561 lo hi 0 u₁ a (omega arith) ∙ l₁ in
+      let l₂ : length u₂ ≡ players-words = ap length f₂ ∙ length-filled 2561 lo hi 0 u₁ a (omega arith) ∙ l₁ in
       let f₃ : u₃ ≡ filled 4609 lo hi 0 u₂ = fill-part 4609 lo hi 0 u₂ z₃ a (omega arith) e₃ in
-      let l₃ : length u₃ ≡ 9473 = ap length f₃ ∙ length-filled 4609 lo hi 0 u₂ a (omega arith) ∙ l₂ in
+      let l₃ : length u₃ ≡ players-words = ap length f₃ ∙ length-filled 4609 lo hi 0 u₂ a (omega arith) ∙ l₂ in
       fill-part 6657 lo hi 0 u₃ z₄ a (omega arith) e₄
       ∙ ap (filled 6657 lo hi 0) (f₃ ∙ ap (filled 4609 lo hi 0) (f₂ ∙ ap (filled 2561 lo hi 0) f₁))
 

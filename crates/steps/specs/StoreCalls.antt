@@ -14,12 +14,12 @@ use Rattle.requests.specs.declared.Request.{Request}
 use Rattle.requests.specs.Model.{is-guard-request, is-read}
 use Rattle.requests.specs.Calls.{with-delivered, without}
 use Rattle.players.specs.Rules.{State, Result}
-use Rattle.players.specs.Table.{stateOf, valid}
+use Rattle.players.specs.Table.{players-words, stateOf, valid}
 use Rattle.players.specs.Calls.{left, encoded}
 
 -- a step that leaves the players' table alone: what it does to a store's table that keeps the rules beside some players'
 pub record Shifts (f : State → Result) (st : List ℕ) (r : Reply) (st′ : List ℕ) : Type 0 where
-  pub shifted : (t : List ℕ) → length t ≡ 9473 → T (valid st t) → left r st′ t ≡ encoded (f (stateOf st t))
+  pub shifted : (t : List ℕ) → length t ≡ players-words → T (valid st t) → left r st′ t ≡ encoded (f (stateOf st t))
 
 -- a step on both tables: what it does to tables that keep the rules
 pub record Acts (f : State → Result) (st t : List ℕ) (r : Reply) (st′ t′ : List ℕ) : Type 0 where

@@ -4,10 +4,11 @@ ghost use mathlib.Core.Path.{_≡_};
 ghost use Prim.Native.Nat.{_+_, _-_, _*_, _≤_, _<_};
 ghost use lib.ListN.{length};
 ghost use Rattle.steps.specs.Calls.{live-guard, hit, all-are, caching, cleared, dropped};
+ghost use Rattle.players.specs.Table.{players-words};
 
 // The guard that the player holds for the entry if it is live, else 0.
 pub(crate) fn live_guard(players: &[u32], player: u8, entry: u8) -> u32
-    requires { ⌜ (length (now players) ≡ 9473) × (player < 8) ⌝ }
+    requires { ⌜ (length (now players) ≡ players-words) × (player < 8) ⌝ }
     ensures { λ r. ⌜ r ≡ live-guard (now (players .entry)) player entry ⌝ }
 {
     let e = entry as usize;
@@ -26,7 +27,7 @@ pub(crate) fn live_guard(players: &[u32], player: u8, entry: u8) -> u32
 
 // Whether what the player has cached for the entry may be read.
 pub(crate) fn is_hit(players: &[u32], player: u8, entry: u8) -> bool
-    requires { ⌜ (length (now players) ≡ 9473) × (player < 8) ⌝ }
+    requires { ⌜ (length (now players) ≡ players-words) × (player < 8) ⌝ }
     ensures { λ r. ⌜ r ≡ hit (now (players .entry)) player entry ⌝ }
 {
     let guard = players[2561 + (player as usize * 256 + entry as usize)];
@@ -53,7 +54,7 @@ pub(crate) fn all_are(players: &[u32], low: usize, high: usize, v: u32) -> bool
 
 // Caches a value in cell `i`, or empties it.
 pub(crate) fn cache(players: &mut [u32], i: usize, guard: u32, version: u32, value: u32)
-    requires { ⌜ (length (now players) ≡ 9473) × (i < 2048) ⌝ }
+    requires { ⌜ (length (now players) ≡ players-words) × (i < 2048) ⌝ }
     ensures { λ _. ⌜ now (players .exit) ≡ caching i guard version value (now (players .entry)) ⌝ }
 {
     players[2561 + i] = guard;
@@ -63,7 +64,7 @@ pub(crate) fn cache(players: &mut [u32], i: usize, guard: u32, version: u32, val
 
 // Clears the guards of cells `low` up to `high`, each with what is cached under it.
 pub(crate) fn clear(players: &mut [u32], low: usize, high: usize)
-    requires { ⌜ (length (now players) ≡ 9473) × (low ≤ high) × (high ≤ 2048) ⌝ }
+    requires { ⌜ (length (now players) ≡ players-words) × (low ≤ high) × (high ≤ 2048) ⌝ }
     ensures { λ _. ⌜ now (players .exit) ≡ cleared low high (now (players .entry)) ⌝ }
 {
     words::fill(&mut players[513 + low..513 + high], 0);
@@ -74,7 +75,7 @@ pub(crate) fn clear(players: &mut [u32], low: usize, high: usize)
 
 // Clears the guard of cell `i` if it is `guard`, with what is cached under it.
 fn drop_at(players: &mut [u32], i: usize, guard: u32)
-    requires { ⌜ (length (now players) ≡ 9473) × (i < 2048) ⌝ }
+    requires { ⌜ (length (now players) ≡ players-words) × (i < 2048) ⌝ }
     ensures { λ _. ⌜ now (players .exit) ≡ dropped guard i 1 (now (players .entry)) ⌝ }
 {
     if players[513 + i] != guard {
@@ -86,7 +87,7 @@ fn drop_at(players: &mut [u32], i: usize, guard: u32)
 
 // Clears each guard of the player that is `guard`.
 pub(crate) fn drop_guard(players: &mut [u32], player: u8, guard: u32)
-    requires { ⌜ (length (now players) ≡ 9473) × (player < 8) ⌝ }
+    requires { ⌜ (length (now players) ≡ players-words) × (player < 8) ⌝ }
     ensures { λ _. ⌜ now (players .exit) ≡ dropped guard (player * 256) 256 (now (players .entry)) ⌝ }
 {
     let low = player as usize * 256;

@@ -13,10 +13,11 @@ ghost use Rattle.requests.specs.Model.{new-request};
 ghost use Rattle.players.specs.declared.Step.the-variants.{Read, RequestGuard, Write};
 ghost use Rattle.players.specs.Rules.{step};
 ghost use Rattle.steps.specs.Calls.{Moves, added};
+ghost use Rattle.players.specs.Table.{players-words};
 
 // Adds a request at place `k`, the first that is not used; its serial is the last one issued.
 fn add(players: &mut [u32], k: usize, r: Request)
-    requires { ⌜ length (now players) ≡ 9473 ⌝ }
+    requires { ⌜ length (now players) ≡ players-words ⌝ }
     ensures { λ _. ⌜ now (players .exit) ≡ added k r (now (players .entry)) ⌝ }
 {
     players[0] = r.serial;
@@ -73,7 +74,7 @@ fn for_entry(
 
 // Step 3: the player must own every entry of the range, and its guards there are cleared.
 pub(crate) fn request_guard(players: &mut [u32], player: u8, range: Range) -> Reply
-    requires { ⌜ length (now players) ≡ 9473 ⌝ }
+    requires { ⌜ length (now players) ≡ players-words ⌝ }
     ensures { λ r. ⌜ Moves (λ s. step s (RequestGuard player range)) (now (players .entry)) r (now (players .exit)) ⌝ }
 {
     if player > 7 {
@@ -109,7 +110,7 @@ pub(crate) fn request_guard(players: &mut [u32], player: u8, range: Range) -> Re
 
 // Step 4: from the cache if it holds a live value, else a request.
 pub(crate) fn read(players: &mut [u32], player: u8, entry: u8) -> Reply
-    requires { ⌜ length (now players) ≡ 9473 ⌝ }
+    requires { ⌜ length (now players) ≡ players-words ⌝ }
     ensures { λ r. ⌜ Moves (λ s. step s (Read player entry)) (now (players .entry)) r (now (players .exit)) ⌝ }
 {
     if player > 7 {
@@ -142,7 +143,7 @@ pub(crate) fn read(players: &mut [u32], player: u8, entry: u8) -> Reply
 
 // Step 5: needs ownership and a live guard, which the request carries.
 pub(crate) fn write(players: &mut [u32], player: u8, entry: u8, value: u32) -> Reply
-    requires { ⌜ length (now players) ≡ 9473 ⌝ }
+    requires { ⌜ length (now players) ≡ players-words ⌝ }
     ensures { λ r. ⌜ Moves (λ s. step s (Write player entry value)) (now (players .entry)) r (now (players .exit)) ⌝ }
 {
     if player > 7 {

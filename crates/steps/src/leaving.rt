@@ -9,10 +9,11 @@ ghost use lib.ListN.{length};
 ghost use Rattle.players.specs.declared.Step.the-variants.{Abandon, Lose, RestartPlayer};
 ghost use Rattle.players.specs.Rules.{step};
 ghost use Rattle.steps.specs.Calls.{Moves, giving-up};
+ghost use Rattle.players.specs.Table.{players-words};
 
 // The request of place `k` leaves if it is delivered, and is abandoned if not.
 fn give_up(players: &mut [u32], k: usize, delivered: bool)
-    requires { ⌜ length (now players) ≡ 9473 ⌝ }
+    requires { ⌜ length (now players) ≡ players-words ⌝ }
     ensures { λ _. ⌜ now (players .exit) ≡ giving-up k delivered (now (players .entry)) ⌝ }
 {
     if delivered {
@@ -24,7 +25,7 @@ fn give_up(players: &mut [u32], k: usize, delivered: bool)
 
 // Step 8: a delivered request leaves, another is marked; the guard that a write carries is dropped.
 pub(crate) fn abandon(players: &mut [u32], serial: u32) -> Reply
-    requires { ⌜ length (now players) ≡ 9473 ⌝ }
+    requires { ⌜ length (now players) ≡ players-words ⌝ }
     ensures { λ r. ⌜ Moves (λ s. step s (Abandon serial)) (now (players .entry)) r (now (players .exit)) ⌝ }
 {
     let found = region::find(&players[8705..9473], serial);
@@ -46,7 +47,7 @@ pub(crate) fn abandon(players: &mut [u32], serial: u32) -> Reply
 
 // Step 9: an abandoned request leaves.
 pub(crate) fn lose(players: &mut [u32], serial: u32) -> Reply
-    requires { ⌜ length (now players) ≡ 9473 ⌝ }
+    requires { ⌜ length (now players) ≡ players-words ⌝ }
     ensures { λ r. ⌜ Moves (λ s. step s (Lose serial)) (now (players .entry)) r (now (players .exit)) ⌝ }
 {
     let found = region::find(&players[8705..9473], serial);
@@ -64,7 +65,7 @@ pub(crate) fn lose(players: &mut [u32], serial: u32) -> Reply
 
 // Step 13: the player's guards are cleared, each with what is cached under it, and its pending requests are given up.
 pub(crate) fn restart_player(players: &mut [u32], player: u8) -> Reply
-    requires { ⌜ length (now players) ≡ 9473 ⌝ }
+    requires { ⌜ length (now players) ≡ players-words ⌝ }
     ensures { λ r. ⌜ Moves (λ s. step s (RestartPlayer player)) (now (players .entry)) r (now (players .exit)) ⌝ }
 {
     if player > 7 {

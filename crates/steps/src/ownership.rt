@@ -9,10 +9,11 @@ ghost use lib.ListN.{length};
 ghost use Rattle.players.specs.declared.Step.the-variants.{Assign, Release};
 ghost use Rattle.players.specs.Rules.{step};
 ghost use Rattle.steps.specs.Calls.{Moves, own};
+ghost use Rattle.players.specs.Table.{players-words};
 
 // A serial is taken; owner (8 for nobody) and epoch are set over the range.
 fn set_owner(players: &mut [u32], owner: u8, range: Range) -> Reply
-    requires { ⌜ length (now players) ≡ 9473 ⌝ }
+    requires { ⌜ length (now players) ≡ players-words ⌝ }
     ensures { λ r. ⌜ Moves (own owner range) (now (players .entry)) r (now (players .exit)) ⌝ }
 {
     let low = range.low as usize;
@@ -36,7 +37,7 @@ fn set_owner(players: &mut [u32], owner: u8, range: Range) -> Reply
 
 // Step 1: the player owns the range.
 pub(crate) fn assign(players: &mut [u32], player: u8, range: Range) -> Reply
-    requires { ⌜ length (now players) ≡ 9473 ⌝ }
+    requires { ⌜ length (now players) ≡ players-words ⌝ }
     ensures { λ r. ⌜ Moves (λ s. step s (Assign player range)) (now (players .entry)) r (now (players .exit)) ⌝ }
 {
     if player > 7 {
@@ -47,7 +48,7 @@ pub(crate) fn assign(players: &mut [u32], player: u8, range: Range) -> Reply
 
 // Step 2: nobody owns the range.
 pub(crate) fn release(players: &mut [u32], range: Range) -> Reply
-    requires { ⌜ length (now players) ≡ 9473 ⌝ }
+    requires { ⌜ length (now players) ≡ players-words ⌝ }
     ensures { λ r. ⌜ Moves (λ s. step s (Release range)) (now (players .entry)) r (now (players .exit)) ⌝ }
 {
     set_owner(players, 8, range)

@@ -13,10 +13,11 @@ ghost use Rattle.players.specs.declared.Step.the-variants.{Respond};
 ghost use Rattle.players.specs.Rules.{respond, respond-guard-request, respond-read, respond-write, step};
 ghost use Rattle.steps.specs.Calls.{Moves, filled};
 ghost use Rattle.steps.specs.RespondCalls.{Responds, still-owning, remembering};
+ghost use Rattle.players.specs.Table.{players-words};
 
 // Whether the player owns each entry from `low` up to `high` with an epoch below the serial; false where that is no range.
 fn still_owned(players: &[u32], player: u8, low: u8, high: u16, serial: u32) -> bool
-    requires { ⌜ length (now players) ≡ 9473 ⌝ }
+    requires { ⌜ length (now players) ≡ players-words ⌝ }
     ensures { λ r. ⌜ r ≡ still-owning player low high serial (now (players .entry)) ⌝ }
 {
     let end = high as usize;
@@ -41,7 +42,7 @@ fn still_owned(players: &[u32], player: u8, low: u8, high: u16, serial: u32) -> 
 
 // The guards of cells `low` up to `high` become `guard`.
 fn grant(players: &mut [u32], low: usize, high: usize, guard: u32)
-    requires { ⌜ (length (now players) ≡ 9473) × (low ≤ high) × (high ≤ 2048) ⌝ }
+    requires { ⌜ (length (now players) ≡ players-words) × (low ≤ high) × (high ≤ 2048) ⌝ }
     ensures { λ _. ⌜ now (players .exit) ≡ filled 513 low high guard (now (players .entry)) ⌝ }
 {
     words::fill(&mut players[513 + low..513 + high], guard);
@@ -57,7 +58,7 @@ fn remember(
     version: u32,
     value: u32,
 )
-    requires { ⌜ (length (now players) ≡ 9473) × (player < 8) ⌝ }
+    requires { ⌜ (length (now players) ≡ players-words) × (player < 8) ⌝ }
     ensures { λ _. ⌜ now (players .exit) ≡ remembering player entry guard overlapped version value (now (players .entry)) ⌝ }
 {
     if guard == 0 {
@@ -80,7 +81,7 @@ fn remember(
 
 // A guard request: granted, or the layout changed, or no longer held.
 fn respond_guard_request(players: &mut [u32], r: Request) -> Reply
-    requires { ⌜ (length (now players) ≡ 9473) × (r .player < 8) × (r .kind ≡ 3) ⌝ }
+    requires { ⌜ (length (now players) ≡ players-words) × (r .player < 8) × (r .kind ≡ 3) ⌝ }
     ensures { λ x. ⌜ Responds respond-guard-request r (now (players .entry)) x (now (players .exit)) ⌝ }
 {
     if !still_owned(players, r.player, r.low, r.high, r.serial) {
@@ -108,7 +109,7 @@ fn respond_guard_request(players: &mut [u32], r: Request) -> Reply
 
 // A read: its outcome, cached if it may be.
 fn respond_read(players: &mut [u32], r: Request) -> Reply
-    requires { ⌜ (length (now players) ≡ 9473) × (r .player < 8) ⌝ }
+    requires { ⌜ (length (now players) ≡ players-words) × (r .player < 8) ⌝ }
     ensures { λ x. ⌜ Responds respond-read r (now (players .entry)) x (now (players .exit)) ⌝ }
 {
     remember(
@@ -129,7 +130,7 @@ fn respond_read(players: &mut [u32], r: Request) -> Reply
 
 // A write: committed, and cached if it may be; or rejected, and the guard carried is dropped.
 fn respond_write(players: &mut [u32], r: Request) -> Reply
-    requires { ⌜ (length (now players) ≡ 9473) × (r .player < 8) ⌝ }
+    requires { ⌜ (length (now players) ≡ players-words) × (r .player < 8) ⌝ }
     ensures { λ x. ⌜ Responds respond-write r (now (players .entry)) x (now (players .exit)) ⌝ }
 {
     if r.first != 1 {
@@ -158,7 +159,7 @@ fn respond_write(players: &mut [u32], r: Request) -> Reply
 
 // By kind, once the request has left.
 fn respond_to(players: &mut [u32], r: Request) -> Reply
-    requires { ⌜ (length (now players) ≡ 9473) × (r .player < 8) ⌝ }
+    requires { ⌜ (length (now players) ≡ players-words) × (r .player < 8) ⌝ }
     ensures { λ x. ⌜ Responds respond r (now (players .entry)) x (now (players .exit)) ⌝ }
 {
     if r.kind == 3 {
@@ -172,7 +173,7 @@ fn respond_to(players: &mut [u32], r: Request) -> Reply
 
 // Step 7: the request leaves, and its outcome takes effect at the player.
 pub(crate) fn respond(players: &mut [u32], serial: u32) -> Reply
-    requires { ⌜ length (now players) ≡ 9473 ⌝ }
+    requires { ⌜ length (now players) ≡ players-words ⌝ }
     ensures { λ r. ⌜ Moves (λ s. step s (Respond serial)) (now (players .entry)) r (now (players .exit)) ⌝ }
 {
     let found = region::find(&players[8705..9473], serial);

@@ -11,6 +11,7 @@ ghost use Rattle.store.specs.Calls.{Steps};
 ghost use Rattle.players.specs.Rules.{step};
 ghost use Rattle.players.specs.declared.Step.the-variants.{Deliver, Split, Merge, RestartTablet};
 ghost use Rattle.steps.specs.StoreCalls.{Shifts, Acts, performed, settled-words};
+ghost use Rattle.players.specs.Table.{players-words};
 
 // Step 10: a boundary before the entry.
 pub(crate) fn split(store: &mut [u32], entry: u8) -> Reply
@@ -55,7 +56,7 @@ fn perform(store: &mut [u32], r: Request) -> Reply
 
 // The request of place `k` leaves if it is abandoned, else it is delivered with this outcome.
 fn settle(players: &mut [u32], k: usize, abandoned: bool, first: u32, second: u32)
-    requires { ⌜ length (now players) ≡ 9473 ⌝ }
+    requires { ⌜ length (now players) ≡ players-words ⌝ }
     ensures { λ _. ⌜ now (players .exit) ≡ settled-words k abandoned first second (now (players .entry)) ⌝ }
 {
     if abandoned {
@@ -67,7 +68,7 @@ fn settle(players: &mut [u32], k: usize, abandoned: bool, first: u32, second: u3
 
 // Step 6: a request that is not delivered yet reaches the store. If it is abandoned, it leaves.
 pub(crate) fn deliver(store: &mut [u32], players: &mut [u32], serial: u32) -> Reply
-    requires { ⌜ (length (now store) ≡ 1280) × (length (now players) ≡ 9473) ⌝ }
+    requires { ⌜ (length (now store) ≡ 1280) × (length (now players) ≡ players-words) ⌝ }
     ensures { λ r. ⌜ Acts (λ s. step s (Deliver serial)) (now (store .entry)) (now (players .entry)) r (now (store .exit)) (now (players .exit)) ⌝ }
 {
     let found = region::find(&players[8705..9473], serial);

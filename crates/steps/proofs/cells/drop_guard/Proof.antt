@@ -9,9 +9,10 @@ use Rattle.steps.specs.Calls.{dropped}
 use Rattle.steps.proofs.WordLaws.{drop-more, drop-end}
 use Rattle.steps.proofs.cells.drop_guard.Statement.{statement}
 use Rattle.steps.proofs.cells.drop_guard.Tie as tie
+use Rattle.players.specs.Table.{players-words}
 
 abbrev Inv-loop : tie.InvT-loop
-Inv-loop players₀ player guard low e₀ players e = (e ≤ 256) × (length players ≡ 9473) × (dropped guard (player * 256 + e) (256 - e) players ≡ dropped guard (player * 256) 256 players₀)
+Inv-loop players₀ player guard low e₀ players e = (e ≤ 256) × (length players ≡ players-words) × (dropped guard (player * 256 + e) (256 - e) players ≡ dropped guard (player * 256) 256 players₀)
 
 abbrev μ-loop : tie.MeasureT-loop
 μ-loop players₀ player guard low e₀ players e = 256 - e
