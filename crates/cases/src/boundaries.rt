@@ -1,11 +1,13 @@
 // Boundaries: a split and a merge, and the guards around them.
+use crate::lengths::PLAYERS;
+use crate::lengths::STORE;
 use crate::make;
 use crate::show;
 use crate::trial;
 use players::Step;
 
 // A guard across a boundary is not set; with the boundary merged it is, and a split leaves it.
-pub(crate) fn pair(store: &mut [u32; 1280], players: &mut [u32; 9473]) {
+pub(crate) fn pair(store: &mut [u32; STORE], players: &mut [u32; PLAYERS]) {
     show::say(b"- split and merge\n");
     trial::fresh(store, players);
     trial::step(store, players, make::split(50));
@@ -22,7 +24,7 @@ pub(crate) fn pair(store: &mut [u32; 1280], players: &mut [u32; 9473]) {
 }
 
 // The tablet from entry 50 on restarts: the write before it commits, the one in it is rejected and clears the guard of both.
-fn restarted(store: &mut [u32; 1280], players: &mut [u32; 9473]) {
+fn restarted(store: &mut [u32; STORE], players: &mut [u32; PLAYERS]) {
     trial::step(store, players, make::write(0, 45, 7));
     trial::step(store, players, make::write(0, 55, 8));
     trial::step(store, players, Step::RestartTablet { entry: 50 });

@@ -1,10 +1,12 @@
 // Requests in flight: 64 places, and the requests that a step fits.
+use crate::lengths::PLAYERS;
+use crate::lengths::STORE;
 use crate::make;
 use crate::show;
 use crate::trial;
 
 // Player 0 reads entry 0 so many times; nothing is shown.
-pub(crate) fn reads(store: &mut [u32; 1280], players: &mut [u32; 9473], times: usize) {
+pub(crate) fn reads(store: &mut [u32; STORE], players: &mut [u32; PLAYERS], times: usize) {
     let mut k: usize = 0;
     while k < times {
         steps::step(store, players, make::read(0, 0));
@@ -13,7 +15,7 @@ pub(crate) fn reads(store: &mut [u32; 1280], players: &mut [u32; 9473], times: u
 }
 
 // ‘The 65th row: 33; give up and lose one, then it goes in.’
-pub(crate) fn sixty_fifth(store: &mut [u32; 1280], players: &mut [u32; 9473]) {
+pub(crate) fn sixty_fifth(store: &mut [u32; STORE], players: &mut [u32; PLAYERS]) {
     show::say(b"- the 65th row\n");
     trial::fresh(store, players);
     reads(store, players, 63);
@@ -29,7 +31,7 @@ pub(crate) fn sixty_fifth(store: &mut [u32; 1280], players: &mut [u32; 9473]) {
 }
 
 // A read from the cache needs neither a place nor a serial.
-pub(crate) fn from_memory(store: &mut [u32; 1280], players: &mut [u32; 9473]) {
+pub(crate) fn from_memory(store: &mut [u32; STORE], players: &mut [u32; PLAYERS]) {
     show::say(b"- a read from memory\n");
     trial::fresh(store, players);
     trial::step(store, players, make::assign(3, 0, 1));
@@ -48,7 +50,7 @@ pub(crate) fn from_memory(store: &mut [u32; 1280], players: &mut [u32; 9473]) {
 }
 
 // Steps 6 to 9 where no request fits.
-pub(crate) fn unfit(store: &mut [u32; 1280], players: &mut [u32; 9473]) {
+pub(crate) fn unfit(store: &mut [u32; STORE], players: &mut [u32; PLAYERS]) {
     show::say(b"- rows that do not fit\n");
     trial::fresh(store, players);
     trial::step(store, players, make::read(7, 255));

@@ -2,6 +2,7 @@
 // tables are compared with what they were, word by word. The file stdout has the replies that the document demands, worked out by hand.
 mod boundaries;
 mod in_flight;
+mod lengths;
 mod make;
 mod refusals;
 mod restarts;
@@ -9,9 +10,12 @@ mod show;
 mod tables;
 mod trial;
 
+use crate::lengths::PLAYERS;
+use crate::lengths::STORE;
+
 fn main() {
-    let mut store = [0u32; 1280];
-    let mut players = [0u32; 9473];
+    let mut store = [0u32; STORE];
+    let mut players = [0u32; PLAYERS];
     in_flight::sixty_fifth(&mut store, &mut players);
     in_flight::from_memory(&mut store, &mut players);
     in_flight::unfit(&mut store, &mut players);

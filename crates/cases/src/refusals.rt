@@ -1,5 +1,7 @@
 // Which refusal is given where two would do.
 use crate::in_flight;
+use crate::lengths::PLAYERS;
+use crate::lengths::STORE;
 use crate::make;
 use crate::show;
 use crate::trial;
@@ -7,7 +9,7 @@ use players::Step;
 use store::Range;
 
 // With all places taken: 28 before 29, and 29, 30 and 31 before 33.
-pub(crate) fn order(store: &mut [u32; 1280], players: &mut [u32; 9473]) {
+pub(crate) fn order(store: &mut [u32; STORE], players: &mut [u32; PLAYERS]) {
     show::say(b"- the order of refusals\n");
     trial::fresh(store, players);
     trial::step(store, players, make::assign(7, 0, 256));
@@ -23,7 +25,7 @@ pub(crate) fn order(store: &mut [u32; 1280], players: &mut [u32; 9473]) {
 }
 
 // With no serial left: 28 and 33 before 34. With a last serial that is none: 22 before 28.
-pub(crate) fn serials(store: &mut [u32; 1280], players: &mut [u32; 9473]) {
+pub(crate) fn serials(store: &mut [u32; STORE], players: &mut [u32; PLAYERS]) {
     show::say(b"- the last serial\n");
     trial::fresh(store, players);
     trial::put(players, 0, 4_000_000);

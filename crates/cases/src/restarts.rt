@@ -1,11 +1,13 @@
 // A player restarts.
+use crate::lengths::PLAYERS;
+use crate::lengths::STORE;
 use crate::make;
 use crate::show;
 use crate::trial;
 use players::Step;
 
 // ‘its guards and cells are cleared, its waiting rows given up as in step 8’
-pub(crate) fn player(store: &mut [u32; 1280], players: &mut [u32; 9473]) {
+pub(crate) fn player(store: &mut [u32; STORE], players: &mut [u32; PLAYERS]) {
     show::say(b"- a player restarts\n");
     trial::fresh(store, players);
     trial::step(store, players, make::assign(0, 40, 60));
@@ -24,7 +26,7 @@ pub(crate) fn player(store: &mut [u32; 1280], players: &mut [u32; 9473]) {
 }
 
 // Request 6 was delivered and has left, request 4 is abandoned and commits late, player 1's request 5 goes on.
-fn after(store: &mut [u32; 1280], players: &mut [u32; 9473]) {
+fn after(store: &mut [u32; STORE], players: &mut [u32; PLAYERS]) {
     trial::same_step(store, players, make::respond(6));
     trial::same_step(store, players, make::lose(6));
     trial::step(store, players, make::read(0, 45));

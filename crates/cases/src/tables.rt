@@ -1,10 +1,12 @@
 // Tables of a wrong length, and tables that break a rule.
+use crate::lengths::PLAYERS;
+use crate::lengths::STORE;
 use crate::make;
 use crate::show;
 use crate::trial;
 
 // One word too few in either table, and none at all. Every word is 7, which breaks many rules: 21 comes before 22.
-pub(crate) fn lengths(store: &mut [u32; 1280], players: &mut [u32; 9473]) {
+pub(crate) fn lengths(store: &mut [u32; STORE], players: &mut [u32; PLAYERS]) {
     show::say(b"- wrong lengths\n");
     trial::same_part(store, 1279, players, 9473);
     trial::same_part(store, 1280, players, 9472);
@@ -12,21 +14,21 @@ pub(crate) fn lengths(store: &mut [u32; 1280], players: &mut [u32; 9473]) {
 }
 
 // Fresh tables with one word of the store's changed.
-fn store_word(store: &mut [u32; 1280], players: &mut [u32; 9473], at: u32, word: u32) {
+fn store_word(store: &mut [u32; STORE], players: &mut [u32; PLAYERS], at: u32, word: u32) {
     trial::fresh(store, players);
     trial::put(store, at, word);
     trial::same_step(store, players, make::split(9));
 }
 
 // Fresh tables with one word of the players' changed.
-fn players_word(store: &mut [u32; 1280], players: &mut [u32; 9473], at: u32, word: u32) {
+fn players_word(store: &mut [u32; STORE], players: &mut [u32; PLAYERS], at: u32, word: u32) {
     trial::fresh(store, players);
     trial::put(players, at, word);
     trial::same_step(store, players, make::split(9));
 }
 
 // One rule broken at a time, and the tables made fresh again. Last a value that no write made, which breaks no rule.
-pub(crate) fn rules(store: &mut [u32; 1280], players: &mut [u32; 9473]) {
+pub(crate) fn rules(store: &mut [u32; STORE], players: &mut [u32; PLAYERS]) {
     show::say(b"- broken rules\n");
     store_word(store, players, 0, 0);
     store_word(store, players, 1, 2);

@@ -1,4 +1,6 @@
 // Calls tried and shown, a line for each.
+use crate::lengths::PLAYERS;
+use crate::lengths::STORE;
 use crate::make;
 use crate::show;
 use players::Step;
@@ -7,30 +9,30 @@ ghost use mathlib.Core.Path.{_≡_};
 ghost use mathlib.Core.Bool.{true};
 
 // Makes the tables fresh.
-pub(crate) fn fresh(store: &mut [u32; 1280], players: &mut [u32; 9473]) {
+pub(crate) fn fresh(store: &mut [u32; STORE], players: &mut [u32; PLAYERS]) {
     show::say(b"fresh");
     show::reply(players::fresh(store, players));
     show::say(b"\n");
 }
 
 // Takes a step.
-pub(crate) fn step(store: &mut [u32; 1280], players: &mut [u32; 9473], next: Step) {
+pub(crate) fn step(store: &mut [u32; STORE], players: &mut [u32; PLAYERS], next: Step) {
     show::step(next);
     show::reply(steps::step(store, players, next));
     show::say(b"\n");
 }
 
 // Player 0 requests a guard over 40 to 60, which is delivered and responded to.
-pub(crate) fn granted(store: &mut [u32; 1280], players: &mut [u32; 9473], serial: u32) {
+pub(crate) fn granted(store: &mut [u32; STORE], players: &mut [u32; PLAYERS], serial: u32) {
     step(store, players, make::request_guard(0, 40, 60));
     step(store, players, make::deliver(serial));
     step(store, players, make::respond(serial));
 }
 
 // Takes a step, and says whether each table is what it was.
-pub(crate) fn same_step(store: &mut [u32; 1280], players: &mut [u32; 9473], next: Step) {
-    let mut store_before = [0u32; 1280];
-    let mut players_before = [0u32; 9473];
+pub(crate) fn same_step(store: &mut [u32; STORE], players: &mut [u32; PLAYERS], next: Step) {
+    let mut store_before = [0u32; STORE];
+    let mut players_before = [0u32; PLAYERS];
     words::copy(&mut store_before, store);
     words::copy(&mut players_before, players);
     show::step(next);
@@ -42,13 +44,13 @@ pub(crate) fn same_step(store: &mut [u32; 1280], players: &mut [u32; 9473], next
 
 // Lends the first words alone, of tables in which every word is 7, and says whether each table is what it was.
 pub(crate) fn same_part(
-    store: &mut [u32; 1280],
+    store: &mut [u32; STORE],
     first: u32,
-    players: &mut [u32; 9473],
+    players: &mut [u32; PLAYERS],
     second: u32,
 ) {
-    let store_before = [7u32; 1280];
-    let players_before = [7u32; 9473];
+    let store_before = [7u32; STORE];
+    let players_before = [7u32; PLAYERS];
     words::fill(store, 7);
     words::fill(players, 7);
     show::lent(first, second);

@@ -54,8 +54,8 @@ fn list(session: &[u8], out: &mut [u8]) -> usize
     requires { ⌜ 240304 ≤ length (now out) ⌝ }
     ensures { λ r. ⌜ (r ≤ length (now (out .exit))) × (take r (now (out .exit)) ≡ printed (now (session .entry))) ⌝ }
 {
-    let mut store = [0u32; 1280];
-    let mut players = [0u32; 9473];
+    let mut store = [0u32; store::layout::WORDS];
+    let mut players = [0u32; players::layout::WORDS];
     let mut replies = [0u32; 16380];
     players::fresh(&mut store, &mut players);
     let report = steps::running::run(&mut store, &mut players, session, 16384, &mut replies);

@@ -1,10 +1,12 @@
 // The players: ownership, held guards, cached values and requests in flight, in one lent table of 9,473 words beside the store's.
 // Each call tests the two tables' lengths (21) and their rules (22) first.
 mod initial;
+pub mod layout;
 mod rules;
 
 use store::Range;
 use store::Reply;
+use store::codes;
 ghost use mathlib.Core.Path.{_≡_};
 ghost use Rattle.players.specs.Calls.{left, whole, checked, made-fresh};
 ghost use Rattle.players.specs.Replies.{refusal};
@@ -37,10 +39,10 @@ fn refuse(code: u32) -> Reply
 fn whole(store: &[u32], players: &[u32]) -> bool
     ensures { λ r. ⌜ r ≡ whole (now (store .entry)) (now (players .entry)) ⌝ }
 {
-    if store.len() != 1280 {
+    if store.len() != store::layout::WORDS {
         return false;
     }
-    players.len() == 9473
+    players.len() == layout::WORDS
 }
 
 // Makes both tables fresh.
@@ -51,7 +53,7 @@ pub fn fresh(store: &mut [u32], players: &mut [u32]) -> Reply
         initial::lay_players(players);
         return store::fresh(store);
     }
-    refuse(21)
+    refuse(codes::WRONG_LENGTH)
 }
 
 // Whether both tables keep the rules.
@@ -59,14 +61,14 @@ pub fn check(store: &[u32], players: &[u32]) -> Reply
     ensures { λ r. ⌜ r ≡ checked (now (store .entry)) (now (players .entry)) ⌝ }
 {
     if !whole(store, players) {
-        return refuse(21);
+        return refuse(codes::WRONG_LENGTH);
     }
-    let tested = store::check_at(store, players[0]);
+    let tested = store::check_at(store, players[layout::LAST]);
     if tested.code != 0 {
-        return refuse(22);
+        return refuse(codes::BROKEN_RULE);
     }
     if !rules::players_hold(players) {
-        return refuse(22);
+        return refuse(codes::BROKEN_RULE);
     }
-    refuse(0)
+    refuse(codes::DONE)
 }

@@ -1,4 +1,5 @@
 // The rules of the players' table, tested.
+use crate::layout;
 ghost use mathlib.Core.Path.{_≡_};
 ghost use lib.ListN.{length, getD, take, drop};
 ghost use Rattle.players.specs.Table.{players-words, cached-holds, cached-all, valid-players};
@@ -27,14 +28,14 @@ fn values_hold(players: &[u32]) -> bool
     requires { ⌜ length (now players) ≡ players-words ⌝ }
     ensures { λ r. ⌜ r ≡ cached-all (getD (now (players .entry)) 0 0) (take 2048 (drop 2561 (now (players .entry)))) (take 2048 (drop 4609 (now (players .entry)))) (take 2048 (drop 6657 (now (players .entry)))) ⌝ }
 {
-    let last = players[0];
+    let last = players[layout::LAST];
     let mut i = 0;
-    while i < 2048 {
+    while i < layout::CELLS {
         if !value_holds(
             last,
-            players[2561 + i],
-            players[4609 + i],
-            players[6657 + i],
+            players[layout::CACHED_GUARDS + i],
+            players[layout::CACHED_VERSIONS + i],
+            players[layout::CACHED_VALUES + i],
         ) {
             return false;
         }
@@ -48,21 +49,21 @@ pub(crate) fn players_hold(players: &[u32]) -> bool
     requires { ⌜ length (now players) ≡ players-words ⌝ }
     ensures { λ r. ⌜ r ≡ valid-players (now (players .entry)) ⌝ }
 {
-    let last = players[0];
-    if last > 4_000_000 {
+    let last = players[layout::LAST];
+    if last > layout::SERIALS {
         return false;
     }
-    if !store::words::at_most(&players[1..257], 8) {
+    if !store::words::at_most(&players[layout::OWNERS..layout::EPOCHS], 8) {
         return false;
     }
-    if !store::words::at_most(&players[257..513], last) {
+    if !store::words::at_most(&players[layout::EPOCHS..layout::HELD], last) {
         return false;
     }
-    if !store::words::at_most(&players[513..2561], last) {
+    if !store::words::at_most(&players[layout::HELD..layout::CACHED_GUARDS], last) {
         return false;
     }
     if !values_hold(players) {
         return false;
     }
-    requests::region::holds(&players[8705..9473], last)
+    requests::region::holds(&players[layout::REQUESTS..layout::REQUESTS_END], last)
 }

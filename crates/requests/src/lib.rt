@@ -1,4 +1,6 @@
 // The requests in flight between the players and the store: 64 places of 12 words, as specs/Region.antt lays them out.
+pub mod kinds;
+pub mod layout;
 pub mod lent;
 mod places;
 pub mod region;

@@ -1,5 +1,6 @@
 // One place of the region: 12 words, which hold a request.
 use crate::Request;
+use crate::layout;
 use crate::tests;
 use store::words;
 ghost use mathlib.Core.Path.{_≡_};
@@ -45,20 +46,20 @@ pub(crate) fn request_at(region: &[u32], k: usize) -> Request
     requires { ⌜ (k < 64) × (length (now region) ≡ 768) ⌝ }
     ensures { λ r. ⌜ r ≡ requestAt (now (region .entry)) k ⌝ }
 {
-    let b = k * 12;
+    let b = k * layout::SIZE;
     Request {
         serial: region[b],
-        player: octal(region[b + 1]),
-        kind: byte(region[b + 2]),
-        low: byte(region[b + 3]),
-        high: half(region[b + 4]),
-        value: region[b + 5],
-        guard: region[b + 6],
-        overlapped: flag(region[b + 7]),
-        delivered: flag(region[b + 8]),
-        abandoned: flag(region[b + 9]),
-        first: region[b + 10],
-        second: region[b + 11],
+        player: octal(region[b + layout::PLAYER]),
+        kind: byte(region[b + layout::KIND]),
+        low: byte(region[b + layout::LOW]),
+        high: half(region[b + layout::HIGH]),
+        value: region[b + layout::VALUE],
+        guard: region[b + layout::GUARD],
+        overlapped: flag(region[b + layout::OVERLAPPED]),
+        delivered: flag(region[b + layout::DELIVERED]),
+        abandoned: flag(region[b + layout::ABANDONED]),
+        first: region[b + layout::FIRST],
+        second: region[b + layout::SECOND],
     }
 }
 
@@ -67,10 +68,10 @@ pub(crate) fn is_used(region: &[u32], k: usize) -> bool
     requires { ⌜ length (now region) ≡ 768 ⌝ }
     ensures { λ r. ⌜ r ≡ ltb k 64 && not (eqb (getD (now (region .entry)) (k * 12) 0) 0) ⌝ }
 {
-    if k >= 64 {
+    if k >= layout::PLACES {
         return false;
     }
-    region[k * 12] != 0
+    region[k * layout::SIZE] != 0
 }
 
 // A mark's word.
@@ -85,19 +86,19 @@ pub(crate) fn put_request(region: &mut [u32], k: usize, r: Request)
     requires { ⌜ (k < 64) × (length (now region) ≡ 768) ⌝ }
     ensures { λ _. ⌜ now (region .exit) ≡ over (now (region .entry)) (k * 12) (wordsOf r) ⌝ }
 {
-    let b = k * 12;
+    let b = k * layout::SIZE;
     region[b] = r.serial;
-    region[b + 1] = r.player as u32;
-    region[b + 2] = r.kind as u32;
-    region[b + 3] = r.low as u32;
-    region[b + 4] = r.high as u32;
-    region[b + 5] = r.value;
-    region[b + 6] = r.guard;
-    region[b + 7] = bit(r.overlapped);
-    region[b + 8] = bit(r.delivered);
-    region[b + 9] = bit(r.abandoned);
-    region[b + 10] = r.first;
-    region[b + 11] = r.second;
+    region[b + layout::PLAYER] = r.player as u32;
+    region[b + layout::KIND] = r.kind as u32;
+    region[b + layout::LOW] = r.low as u32;
+    region[b + layout::HIGH] = r.high as u32;
+    region[b + layout::VALUE] = r.value;
+    region[b + layout::GUARD] = r.guard;
+    region[b + layout::OVERLAPPED] = bit(r.overlapped);
+    region[b + layout::DELIVERED] = bit(r.delivered);
+    region[b + layout::ABANDONED] = bit(r.abandoned);
+    region[b + layout::FIRST] = r.first;
+    region[b + layout::SECOND] = r.second;
 }
 
 // Takes the first of these places out: later ones move down by one, and the last becomes unused.
@@ -105,10 +106,10 @@ fn drop_first(places: &mut [u32])
     requires { ⌜ 12 ≤ length (now places) ⌝ }
     ensures { λ _. ⌜ now (places .exit) ≡ drop 12 (now (places .entry)) ++ replicate 12 0 ⌝ }
 {
-    let n = places.len() - 12;
+    let n = places.len() - layout::SIZE;
     let mut i = 0;
     while i < n {
-        places[i] = places[i + 12];
+        places[i] = places[i + layout::SIZE];
         i += 1;
     }
     words::fill(&mut places[n..], 0);
@@ -119,7 +120,7 @@ pub(crate) fn close(region: &mut [u32], k: usize)
     requires { ⌜ (k < 64) × (length (now region) ≡ 768) ⌝ }
     ensures { λ _. ⌜ now (region .exit) ≡ closed k (now (region .entry)) ⌝ }
 {
-    drop_first(&mut region[k * 12..]);
+    drop_first(&mut region[k * layout::SIZE..]);
 }
 
 // Marks the request `r` of place `k` as overlapped if it is a pending read or write of the player on the entry.
@@ -130,7 +131,7 @@ pub(crate) fn overlap(region: &mut [u32], k: usize, r: Request, player: u8, entr
     if !tests::is_using(r, player, entry) {
         return;
     }
-    region[k * 12 + 7] = 1;
+    region[k * layout::SIZE + layout::OVERLAPPED] = 1;
 }
 
 // Copies the words of place `k` down to place `j`.
@@ -138,10 +139,10 @@ fn copy_down(region: &mut [u32], j: usize, k: usize)
     requires { ⌜ (j ≤ k) × (k < 64) × (length (now region) ≡ 768) ⌝ }
     ensures { λ _. ⌜ now (region .exit) ≡ over (now (region .entry)) (j * 12) (take 12 (drop (k * 12) (now (region .entry)))) ⌝ }
 {
-    let b = j * 12;
-    let n = k * 12 - b;
+    let b = j * layout::SIZE;
+    let n = k * layout::SIZE - b;
     let mut i = b;
-    while i < b + 12 {
+    while i < b + layout::SIZE {
         region[i] = region[i + n];
         i += 1;
     }
@@ -166,7 +167,7 @@ fn give_up(region: &mut [u32], j: usize, r: Request, player: u8)
     if r.player != player {
         return;
     }
-    region[j * 12 + 9] = 1;
+    region[j * layout::SIZE + layout::ABANDONED] = 1;
 }
 
 // Carries the request of place `k` over to place `j` if it remains when the player restarts. The place for the next one.

@@ -2,6 +2,7 @@
 use crate::Found;
 use crate::Request;
 use crate::Scan;
+use crate::layout;
 use crate::places;
 use crate::rules;
 use crate::tests;
@@ -16,7 +17,7 @@ ghost use Rattle.requests.specs.Calls.{found, scanned, full, with-reques
 pub fn holds(region: &[u32], last: u32) -> bool
     ensures { λ r. ⌜ r ≡ valid last (now (region .entry)) ⌝ }
 {
-    if region.len() == 768 {
+    if region.len() == layout::WORDS {
         return rules::places_hold(region, last);
     }
     false
@@ -28,12 +29,12 @@ pub fn holds(region: &[u32], last: u32) -> bool
 pub fn find(region: &[u32], serial: u32) -> Found
     ensures { λ r. ⌜ r ≡ found serial (now (region .entry)) ⌝ }
 {
-    if region.len() != 768 {
+    if region.len() != layout::WORDS {
         return Found::Nowhere;
     }
     let mut k = 0;
-    while k < 64 {
-        let next = region[k * 12];
+    while k < layout::PLACES {
+        let next = region[k * layout::SIZE];
         if next == 0 {
             return Found::Nowhere;
         }
@@ -50,7 +51,7 @@ pub fn find(region: &[u32], serial: u32) -> Found
 pub fn scan_requests(region: &[u32], player: u8, range: Range) -> Scan
     ensures { λ r. ⌜ r ≡ scanned (requesting player range) (now (region .entry)) ⌝ }
 {
-    if region.len() != 768 {
+    if region.len() != layout::WORDS {
         return Scan {
             used: 0,
             hit: false,
@@ -58,8 +59,8 @@ pub fn scan_requests(region: &[u32], player: u8, range: Range) -> Scan
     }
     let mut hit = false;
     let mut k = 0;
-    while k < 64 {
-        if region[k * 12] == 0 {
+    while k < layout::PLACES {
+        if region[k * layout::SIZE] == 0 {
             return Scan { used: k, hit };
         }
         let r = places::request_at(region, k);
@@ -73,7 +74,7 @@ pub fn scan_requests(region: &[u32], player: u8, range: Range) -> Scan
 pub fn scan_writes(region: &[u32], player: u8, entry: u8) -> Scan
     ensures { λ r. ⌜ r ≡ scanned (writing player entry) (now (region .entry)) ⌝ }
 {
-    if region.len() != 768 {
+    if region.len() != layout::WORDS {
         return Scan {
             used: 0,
             hit: false,
@@ -81,8 +82,8 @@ pub fn scan_writes(region: &[u32], player: u8, entry: u8) -> Scan
     }
     let mut hit = false;
     let mut k = 0;
-    while k < 64 {
-        if region[k * 12] == 0 {
+    while k < layout::PLACES {
+        if region[k * layout::SIZE] == 0 {
             return Scan { used: k, hit };
         }
         let r = places::request_at(region, k);
@@ -96,10 +97,10 @@ pub fn scan_writes(region: &[u32], player: u8, entry: u8) -> Scan
 pub fn is_full(region: &[u32]) -> bool
     ensures { λ r. ⌜ r ≡ full (now (region .entry)) ⌝ }
 {
-    if region.len() != 768 {
+    if region.len() != layout::WORDS {
         return false;
     }
-    region[756] != 0
+    region[layout::LAST_PLACE] != 0
 }
 
 // ---- one place changed
@@ -108,10 +109,10 @@ pub fn is_full(region: &[u32]) -> bool
 pub fn put(region: &mut [u32], k: usize, r: Request)
     ensures { λ _. ⌜ now (region .exit) ≡ with-request k r (now (region .entry)) ⌝ }
 {
-    if region.len() != 768 {
+    if region.len() != layout::WORDS {
         return;
     }
-    if k >= 64 {
+    if k >= layout::PLACES {
         return;
     }
     places::put_request(region, k, r);
@@ -121,38 +122,38 @@ pub fn put(region: &mut [u32], k: usize, r: Request)
 pub fn abandon(region: &mut [u32], k: usize)
     ensures { λ _. ⌜ now (region .exit) ≡ with-abandoned k (now (region .entry)) ⌝ }
 {
-    if region.len() != 768 {
+    if region.len() != layout::WORDS {
         return;
     }
-    if k >= 64 {
+    if k >= layout::PLACES {
         return;
     }
-    region[k * 12 + 9] = 1;
+    region[k * layout::SIZE + layout::ABANDONED] = 1;
 }
 
 // The request of place `k` is delivered, with an outcome.
 pub fn deliver(region: &mut [u32], k: usize, first: u32, second: u32)
     ensures { λ _. ⌜ now (region .exit) ≡ with-delivered k first second (now (region .entry)) ⌝ }
 {
-    if region.len() != 768 {
+    if region.len() != layout::WORDS {
         return;
     }
-    if k >= 64 {
+    if k >= layout::PLACES {
         return;
     }
-    region[k * 12 + 8] = 1;
-    region[k * 12 + 10] = first;
-    region[k * 12 + 11] = second;
+    region[k * layout::SIZE + layout::DELIVERED] = 1;
+    region[k * layout::SIZE + layout::FIRST] = first;
+    region[k * layout::SIZE + layout::SECOND] = second;
 }
 
 // Takes place `k` out.
 pub fn remove(region: &mut [u32], k: usize)
     ensures { λ _. ⌜ now (region .exit) ≡ without k (now (region .entry)) ⌝ }
 {
-    if region.len() != 768 {
+    if region.len() != layout::WORDS {
         return;
     }
-    if k >= 64 {
+    if k >= layout::PLACES {
         return;
     }
     places::close(region, k);
@@ -164,7 +165,7 @@ pub fn remove(region: &mut [u32], k: usize)
 pub fn cross(region: &mut [u32], player: u8, entry: u8) -> Scan
     ensures { λ r. ⌜ crossing r (now (region .exit)) ≡ crossed player entry (now (region .entry)) ⌝ }
 {
-    if region.len() != 768 {
+    if region.len() != layout::WORDS {
         return Scan {
             used: 0,
             hit: false,
@@ -172,8 +173,8 @@ pub fn cross(region: &mut [u32], player: u8, entry: u8) -> Scan
     }
     let mut writes = false;
     let mut k = 0;
-    while k < 64 {
-        if region[k * 12] == 0 {
+    while k < layout::PLACES {
+        if region[k * layout::SIZE] == 0 {
             return Scan {
                 used: k,
                 hit: writes,
@@ -194,7 +195,7 @@ pub fn cross(region: &mut [u32], player: u8, entry: u8) -> Scan
 pub fn restart(region: &mut [u32], player: u8)
     ensures { λ _. ⌜ now (region .exit) ≡ restarted player (now (region .entry)) ⌝ }
 {
-    if region.len() != 768 {
+    if region.len() != layout::WORDS {
         return;
     }
     let mut j = 0;
@@ -203,5 +204,5 @@ pub fn restart(region: &mut [u32], player: u8)
         j = places::carry(region, j, k, player);
         k += 1;
     }
-    words::fill(&mut region[j * 12..k * 12], 0);
+    words::fill(&mut region[j * layout::SIZE..k * layout::SIZE], 0);
 }

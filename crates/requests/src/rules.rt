@@ -1,5 +1,7 @@
 // The rules of the region, tested.
 use crate::Request;
+use crate::kinds;
+use crate::layout;
 use crate::places;
 use store::words;
 ghost use mathlib.Core.Path.{_≡_};
@@ -50,13 +52,13 @@ fn write_holds(r: Request) -> bool
 fn fields_hold(r: Request) -> bool
     ensures { λ b. ⌜ b ≡ fields-hold r ⌝ }
 {
-    if r.kind == 3 {
+    if r.kind == kinds::GUARD_REQUEST {
         return guard_request_holds(r);
     }
-    if r.kind == 4 {
+    if r.kind == kinds::READ {
         return read_holds(r);
     }
-    if r.kind == 5 {
+    if r.kind == kinds::WRITE {
         return write_holds(r);
     }
     false
@@ -75,7 +77,7 @@ fn outcome_holds(r: Request, last: u32) -> bool
     if r.abandoned {
         return false;
     }
-    if r.kind == 4 {
+    if r.kind == kinds::READ {
         return r.first <= last;
     }
     if r.first < 1 {
@@ -111,26 +113,26 @@ fn words_fit(region: &[u32], k: usize) -> bool
     requires { ⌜ (k < 64) × (length (now region) ≡ 768) ⌝ }
     ensures { λ b. ⌜ b ≡ words-fit (drop (k * 12) (now (region .entry))) ⌝ }
 {
-    let b = k * 12;
-    if region[b + 1] > 7 {
+    let b = k * layout::SIZE;
+    if region[b + layout::PLAYER] > 7 {
         return false;
     }
-    if region[b + 2] > 255 {
+    if region[b + layout::KIND] > 255 {
         return false;
     }
-    if region[b + 3] > 255 {
+    if region[b + layout::LOW] > 255 {
         return false;
     }
-    if region[b + 4] > 65535 {
+    if region[b + layout::HIGH] > 65535 {
         return false;
     }
-    if region[b + 7] > 1 {
+    if region[b + layout::OVERLAPPED] > 1 {
         return false;
     }
-    if region[b + 8] > 1 {
+    if region[b + layout::DELIVERED] > 1 {
         return false;
     }
-    region[b + 9] <= 1
+    region[b + layout::ABANDONED] <= 1
 }
 
 // Whether the 64 places keep the rules.
@@ -140,8 +142,8 @@ pub(crate) fn places_hold(region: &[u32], last: u32) -> bool
 {
     let mut serial: u32 = 0;
     let mut k = 0;
-    while k < 64 {
-        let at = k * 12;
+    while k < layout::PLACES {
+        let at = k * layout::SIZE;
         let next = region[at];
         if next == 0 {
             return words::at_most(&region[at..], 0);

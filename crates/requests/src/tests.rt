@@ -1,5 +1,6 @@
 // Tests of one request.
 use crate::Request;
+use crate::kinds;
 use store::Range;
 ghost use mathlib.Core.Path.{_≡_};
 ghost use mathlib.Core.Bool.{_||_};
@@ -13,7 +14,7 @@ pub(crate) fn is_requesting(r: Request, player: u8, range: Range) -> bool
     if r.abandoned {
         return false;
     }
-    if r.kind != 3 {
+    if r.kind != kinds::GUARD_REQUEST {
         return false;
     }
     if r.player != player {
@@ -32,7 +33,7 @@ pub(crate) fn is_writing(r: Request, player: u8, entry: u8) -> bool
     if r.abandoned {
         return false;
     }
-    if r.kind != 5 {
+    if r.kind != kinds::WRITE {
         return false;
     }
     if r.player != player {
@@ -48,7 +49,7 @@ pub(crate) fn is_using(r: Request, player: u8, entry: u8) -> bool
     if r.abandoned {
         return false;
     }
-    if r.kind == 3 {
+    if r.kind == kinds::GUARD_REQUEST {
         return false;
     }
     if r.player != player {

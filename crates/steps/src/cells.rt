@@ -1,4 +1,5 @@
 // What the players have for each entry, in the players' table: the guards that they hold, and the values that they have cached.
+use players::layout;
 use store::words;
 ghost use mathlib.Core.Path.{_≡_};
 ghost use Prim.Native.Nat.{_+_, _-_, _*_, _≤_, _<_};
@@ -12,14 +13,14 @@ pub(crate) fn live_guard(players: &[u32], player: u8, entry: u8) -> u32
     ensures { λ r. ⌜ r ≡ live-guard (now (players .entry)) player entry ⌝ }
 {
     let e = entry as usize;
-    let guard = players[513 + (player as usize * 256 + e)];
+    let guard = players[layout::HELD + (player as usize * layout::ENTRIES + e)];
     if guard == 0 {
         return 0;
     }
-    if players[1 + e] != player as u32 {
+    if players[layout::OWNERS + e] != player as u32 {
         return 0;
     }
-    if players[257 + e] >= guard {
+    if players[layout::EPOCHS + e] >= guard {
         return 0;
     }
     guard
@@ -30,7 +31,8 @@ pub(crate) fn is_hit(players: &[u32], player: u8, entry: u8) -> bool
     requires { ⌜ (length (now players) ≡ players-words) × (player < 8) ⌝ }
     ensures { λ r. ⌜ r ≡ hit (now (players .entry)) player entry ⌝ }
 {
-    let guard = players[2561 + (player as usize * 256 + entry as usize)];
+    let guard = players[layout::CACHED_GUARDS
+        + (player as usize * layout::ENTRIES + entry as usize)];
     if guard == 0 {
         return false;
     }
@@ -57,9 +59,9 @@ pub(crate) fn cache(players: &mut [u32], i: usize, guard: u32, version: u32, val
     requires { ⌜ (length (now players) ≡ players-words) × (i < 2048) ⌝ }
     ensures { λ _. ⌜ now (players .exit) ≡ caching i guard version value (now (players .entry)) ⌝ }
 {
-    players[2561 + i] = guard;
-    players[4609 + i] = version;
-    players[6657 + i] = value;
+    players[layout::CACHED_GUARDS + i] = guard;
+    players[layout::CACHED_VERSIONS + i] = version;
+    players[layout::CACHED_VALUES + i] = value;
 }
 
 // Clears the guards of cells `low` up to `high`, each with what is cached under it.
@@ -67,10 +69,19 @@ pub(crate) fn clear(players: &mut [u32], low: usize, high: usize)
     requires { ⌜ (length (now players) ≡ players-words) × (low ≤ high) × (high ≤ 2048) ⌝ }
     ensures { λ _. ⌜ now (players .exit) ≡ cleared low high (now (players .entry)) ⌝ }
 {
-    words::fill(&mut players[513 + low..513 + high], 0);
-    words::fill(&mut players[2561 + low..2561 + high], 0);
-    words::fill(&mut players[4609 + low..4609 + high], 0);
-    words::fill(&mut players[6657 + low..6657 + high], 0);
+    words::fill(&mut players[layout::HELD + low..layout::HELD + high], 0);
+    words::fill(
+        &mut players[layout::CACHED_GUARDS + low..layout::CACHED_GUARDS + high],
+        0,
+    );
+    words::fill(
+        &mut players[layout::CACHED_VERSIONS + low..layout::CACHED_VERSIONS + high],
+        0,
+    );
+    words::fill(
+        &mut players[layout::CACHED_VALUES + low..layout::CACHED_VALUES + high],
+        0,
+    );
 }
 
 // Clears the guard of cell `i` if it is `guard`, with what is cached under it.
@@ -78,10 +89,10 @@ fn drop_at(players: &mut [u32], i: usize, guard: u32)
     requires { ⌜ (length (now players) ≡ players-words) × (i < 2048) ⌝ }
     ensures { λ _. ⌜ now (players .exit) ≡ dropped guard i 1 (now (players .entry)) ⌝ }
 {
-    if players[513 + i] != guard {
+    if players[layout::HELD + i] != guard {
         return;
     }
-    players[513 + i] = 0;
+    players[layout::HELD + i] = 0;
     cache(players, i, 0, 0, 0);
 }
 
@@ -90,7 +101,7 @@ pub(crate) fn drop_guard(players: &mut [u32], player: u8, guard: u32)
     requires { ⌜ (length (now players) ≡ players-words) × (player < 8) ⌝ }
     ensures { λ _. ⌜ now (players .exit) ≡ dropped guard (player * 256) 256 (now (players .entry)) ⌝ }
 {
-    let low = player as usize * 256;
+    let low = player as usize * layout::ENTRIES;
     let mut e: usize = 0;
     while e < 256 {
         drop_at(players, low + e, guard);

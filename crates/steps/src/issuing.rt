@@ -2,10 +2,13 @@
 use crate::cells;
 use crate::issued;
 use crate::refuse;
+use players::layout;
 use requests::Request;
+use requests::kinds;
 use requests::region;
 use store::Range;
 use store::Reply;
+use store::codes;
 ghost use mathlib.Core.Path.{_≡_};
 ghost use lib.ListN.{length};
 ghost use mathlib.Core.Bool.{false};
@@ -20,8 +23,8 @@ fn add(players: &mut [u32], k: usize, r: Request)
     requires { ⌜ length (now players) ≡ players-words ⌝ }
     ensures { λ _. ⌜ now (players .exit) ≡ added k r (now (players .entry)) ⌝ }
 {
-    players[0] = r.serial;
-    region::put(&mut players[8705..9473], k, r);
+    players[layout::LAST] = r.serial;
+    region::put(&mut players[layout::REQUESTS..layout::REQUESTS_END], k, r);
 }
 
 // A request for a guard.
@@ -31,7 +34,7 @@ fn for_guard(serial: u32, player: u8, range: Range) -> Request
     Request {
         serial,
         player,
-        kind: 3,
+        kind: kinds::GUARD_REQUEST,
         low: range.low,
         high: range.high,
         value: 0,
@@ -77,32 +80,41 @@ pub(crate) fn request_guard(players: &mut [u32], player: u8, range: Range) -> Re
     requires { ⌜ length (now players) ≡ players-words ⌝ }
     ensures { λ r. ⌜ Moves (λ s. step s (RequestGuard player range)) (now (players .entry)) r (now (players .exit)) ⌝ }
 {
-    if player > 7 {
-        return refuse(28);
+    if player > layout::LAST_PLAYER {
+        return refuse(codes::OUT_OF_RANGE);
     }
     let low = range.low as usize;
     let high = range.high as usize;
     if low >= high {
-        return refuse(28);
+        return refuse(codes::OUT_OF_RANGE);
     }
-    if high > 256 {
-        return refuse(28);
+    if high > layout::ENTRIES {
+        return refuse(codes::OUT_OF_RANGE);
     }
-    if !cells::all_are(players, 1 + low, 1 + high, player as u32) {
-        return refuse(29);
+    if !cells::all_are(
+        players,
+        layout::OWNERS + low,
+        layout::OWNERS + high,
+        player as u32,
+    ) {
+        return refuse(codes::NOT_OWNER);
     }
-    let scan = region::scan_requests(&players[8705..9473], player, range);
+    let scan = region::scan_requests(
+        &players[layout::REQUESTS..layout::REQUESTS_END],
+        player,
+        range,
+    );
     if scan.hit {
-        return refuse(31);
+        return refuse(codes::ALREADY_REQUESTED);
     }
-    if scan.used >= 64 {
-        return refuse(33);
+    if scan.used >= requests::layout::PLACES {
+        return refuse(codes::NO_PLACE_LEFT);
     }
-    let last = players[0];
-    if last >= 4_000_000 {
-        return refuse(34);
+    let last = players[layout::LAST];
+    if last >= layout::SERIALS {
+        return refuse(codes::NO_SERIAL_LEFT);
     }
-    let i = player as usize * 256;
+    let i = player as usize * layout::ENTRIES;
     cells::clear(players, i + low, i + high);
     add(players, scan.used, for_guard(last + 1, player, range));
     issued(last + 1)
@@ -113,30 +125,34 @@ pub(crate) fn read(players: &mut [u32], player: u8, entry: u8) -> Reply
     requires { ⌜ length (now players) ≡ players-words ⌝ }
     ensures { λ r. ⌜ Moves (λ s. step s (Read player entry)) (now (players .entry)) r (now (players .exit)) ⌝ }
 {
-    if player > 7 {
-        return refuse(28);
+    if player > layout::LAST_PLAYER {
+        return refuse(codes::OUT_OF_RANGE);
     }
-    let i = player as usize * 256 + entry as usize;
+    let i = player as usize * layout::ENTRIES + entry as usize;
     if cells::is_hit(players, player, entry) {
         return Reply {
-            code: 2,
-            a: players[4609 + i],
-            b: players[6657 + i],
+            code: codes::CACHE_READ,
+            a: players[layout::CACHED_VERSIONS + i],
+            b: players[layout::CACHED_VALUES + i],
         };
     }
-    if region::is_full(&players[8705..9473]) {
-        return refuse(33);
+    if region::is_full(&players[layout::REQUESTS..layout::REQUESTS_END]) {
+        return refuse(codes::NO_PLACE_LEFT);
     }
-    let last = players[0];
-    if last >= 4_000_000 {
-        return refuse(34);
+    let last = players[layout::LAST];
+    if last >= layout::SERIALS {
+        return refuse(codes::NO_SERIAL_LEFT);
     }
     let guard = cells::live_guard(players, player, entry);
-    let scan = region::scan_writes(&players[8705..9473], player, entry);
+    let scan = region::scan_writes(
+        &players[layout::REQUESTS..layout::REQUESTS_END],
+        player,
+        entry,
+    );
     add(
         players,
         scan.used,
-        for_entry(last + 1, player, 4, entry, 0, guard, scan.hit),
+        for_entry(last + 1, player, kinds::READ, entry, 0, guard, scan.hit),
     );
     issued(last + 1)
 }
@@ -146,30 +162,42 @@ pub(crate) fn write(players: &mut [u32], player: u8, entry: u8, value: u32) -> R
     requires { ⌜ length (now players) ≡ players-words ⌝ }
     ensures { λ r. ⌜ Moves (λ s. step s (Write player entry value)) (now (players .entry)) r (now (players .exit)) ⌝ }
 {
-    if player > 7 {
-        return refuse(28);
+    if player > layout::LAST_PLAYER {
+        return refuse(codes::OUT_OF_RANGE);
     }
     let e = entry as usize;
-    if players[1 + e] != player as u32 {
-        return refuse(29);
+    if players[layout::OWNERS + e] != player as u32 {
+        return refuse(codes::NOT_OWNER);
     }
     let guard = cells::live_guard(players, player, entry);
     if guard == 0 {
-        return refuse(30);
+        return refuse(codes::NO_LIVE_GUARD);
     }
-    if region::is_full(&players[8705..9473]) {
-        return refuse(33);
+    if region::is_full(&players[layout::REQUESTS..layout::REQUESTS_END]) {
+        return refuse(codes::NO_PLACE_LEFT);
     }
-    let last = players[0];
-    if last >= 4_000_000 {
-        return refuse(34);
+    let last = players[layout::LAST];
+    if last >= layout::SERIALS {
+        return refuse(codes::NO_SERIAL_LEFT);
     }
-    cells::cache(players, player as usize * 256 + e, 0, 0, 0);
-    let scan = region::cross(&mut players[8705..9473], player, entry);
+    cells::cache(players, player as usize * layout::ENTRIES + e, 0, 0, 0);
+    let scan = region::cross(
+        &mut players[layout::REQUESTS..layout::REQUESTS_END],
+        player,
+        entry,
+    );
     add(
         players,
         scan.used,
-        for_entry(last + 1, player, 5, entry, value, guard, scan.hit),
+        for_entry(
+            last + 1,
+            player,
+            kinds::WRITE,
+            entry,
+            value,
+            guard,
+            scan.hit,
+        ),
     );
     issued(last + 1)
 }

@@ -1,9 +1,12 @@
 // Steps 8, 9 and 13: requests that are given up, or lost. The length of the players' table is known; its rules are not tested.
 use crate::cells;
 use crate::refuse;
+use players::layout;
 use requests::Found;
+use requests::kinds;
 use requests::region;
 use store::Reply;
+use store::codes;
 ghost use mathlib.Core.Path.{_≡_};
 ghost use lib.ListN.{length};
 ghost use Rattle.players.specs.declared.Step.the-variants.{Abandon, Lose, RestartPlayer};
@@ -17,10 +20,10 @@ fn give_up(players: &mut [u32], k: usize, delivered: bool)
     ensures { λ _. ⌜ now (players .exit) ≡ giving-up k delivered (now (players .entry)) ⌝ }
 {
     if delivered {
-        region::remove(&mut players[8705..9473], k);
+        region::remove(&mut players[layout::REQUESTS..layout::REQUESTS_END], k);
         return;
     }
-    region::abandon(&mut players[8705..9473], k);
+    region::abandon(&mut players[layout::REQUESTS..layout::REQUESTS_END], k);
 }
 
 // Step 8: a delivered request leaves, another is marked; the guard that a write carries is dropped.
@@ -28,19 +31,19 @@ pub(crate) fn abandon(players: &mut [u32], serial: u32) -> Reply
     requires { ⌜ length (now players) ≡ players-words ⌝ }
     ensures { λ r. ⌜ Moves (λ s. step s (Abandon serial)) (now (players .entry)) r (now (players .exit)) ⌝ }
 {
-    let found = region::find(&players[8705..9473], serial);
+    let found = region::find(&players[layout::REQUESTS..layout::REQUESTS_END], serial);
     match found {
-        Found::Nowhere => refuse(32),
+        Found::Nowhere => refuse(codes::NO_SUCH_REQUEST),
         Found::At { place, request } => {
             if request.abandoned {
-                return refuse(32);
+                return refuse(codes::NO_SUCH_REQUEST);
             }
             give_up(players, place, request.delivered);
-            if request.kind != 5 {
-                return refuse(0);
+            if request.kind != kinds::WRITE {
+                return refuse(codes::DONE);
             }
             cells::drop_guard(players, request.player, request.guard);
-            refuse(0)
+            refuse(codes::DONE)
         }
     }
 }
@@ -50,15 +53,15 @@ pub(crate) fn lose(players: &mut [u32], serial: u32) -> Reply
     requires { ⌜ length (now players) ≡ players-words ⌝ }
     ensures { λ r. ⌜ Moves (λ s. step s (Lose serial)) (now (players .entry)) r (now (players .exit)) ⌝ }
 {
-    let found = region::find(&players[8705..9473], serial);
+    let found = region::find(&players[layout::REQUESTS..layout::REQUESTS_END], serial);
     match found {
-        Found::Nowhere => refuse(32),
+        Found::Nowhere => refuse(codes::NO_SUCH_REQUEST),
         Found::At { place, request } => {
             if !request.abandoned {
-                return refuse(32);
+                return refuse(codes::NO_SUCH_REQUEST);
             }
-            region::remove(&mut players[8705..9473], place);
-            refuse(0)
+            region::remove(&mut players[layout::REQUESTS..layout::REQUESTS_END], place);
+            refuse(codes::DONE)
         }
     }
 }
@@ -68,11 +71,11 @@ pub(crate) fn restart_player(players: &mut [u32], player: u8) -> Reply
     requires { ⌜ length (now players) ≡ players-words ⌝ }
     ensures { λ r. ⌜ Moves (λ s. step s (RestartPlayer player)) (now (players .entry)) r (now (players .exit)) ⌝ }
 {
-    if player > 7 {
-        return refuse(28);
+    if player > layout::LAST_PLAYER {
+        return refuse(codes::OUT_OF_RANGE);
     }
-    let i = player as usize * 256;
+    let i = player as usize * layout::ENTRIES;
     cells::clear(players, i, i + 256);
-    region::restart(&mut players[8705..9473], player);
-    refuse(0)
+    region::restart(&mut players[layout::REQUESTS..layout::REQUESTS_END], player);
+    refuse(codes::DONE)
 }

@@ -8,7 +8,9 @@ pub mod running;
 mod store_steps;
 
 use players::Step;
+use players::layout;
 use store::Reply;
+use store::codes;
 ghost use mathlib.Core.Path.{_≡_};
 ghost use Rattle.players.specs.Replies.{refusal, issued};
 ghost use Rattle.players.specs.Rules.{step};
@@ -26,7 +28,7 @@ fn issued(serial: u32) -> Reply
     ensures { λ r. ⌜ r ≡ issued serial ⌝ }
 {
     Reply {
-        code: 1,
+        code: codes::ISSUED,
         a: serial,
         b: 0,
     }
@@ -36,11 +38,11 @@ fn issued(serial: u32) -> Reply
 pub(crate) fn take(store: &mut [u32], players: &mut [u32], next: Step) -> Reply
     ensures { λ r. ⌜ Steps (λ s. step s next) (now (store .entry)) (now (players .entry)) r (now (store .exit)) (now (players .exit)) ⌝ }
 {
-    if store.len() != 1280 {
-        return refuse(21);
+    if store.len() != store::layout::WORDS {
+        return refuse(codes::WRONG_LENGTH);
     }
-    if players.len() != 9473 {
-        return refuse(21);
+    if players.len() != layout::WORDS {
+        return refuse(codes::WRONG_LENGTH);
     }
     match next {
         Step::Assign { player, range } => ownership::assign(players, player, range),

@@ -1,8 +1,10 @@
 // Steps 1 and 2: who owns the entries. The length of the players' table is known; its rules are not tested.
 use crate::issued;
 use crate::refuse;
+use players::layout;
 use store::Range;
 use store::Reply;
+use store::codes;
 use store::words;
 ghost use mathlib.Core.Path.{_≡_};
 ghost use lib.ListN.{length};
@@ -19,19 +21,25 @@ fn set_owner(players: &mut [u32], owner: u8, range: Range) -> Reply
     let low = range.low as usize;
     let high = range.high as usize;
     if low >= high {
-        return refuse(28);
+        return refuse(codes::OUT_OF_RANGE);
     }
-    if high > 256 {
-        return refuse(28);
+    if high > layout::ENTRIES {
+        return refuse(codes::OUT_OF_RANGE);
     }
-    let last = players[0];
-    if last >= 4_000_000 {
-        return refuse(34);
+    let last = players[layout::LAST];
+    if last >= layout::SERIALS {
+        return refuse(codes::NO_SERIAL_LEFT);
     }
     let serial = last + 1;
-    players[0] = serial;
-    words::fill(&mut players[1 + low..1 + high], owner as u32);
-    words::fill(&mut players[257 + low..257 + high], serial);
+    players[layout::LAST] = serial;
+    words::fill(
+        &mut players[layout::OWNERS + low..layout::OWNERS + high],
+        owner as u32,
+    );
+    words::fill(
+        &mut players[layout::EPOCHS + low..layout::EPOCHS + high],
+        serial,
+    );
     issued(serial)
 }
 
@@ -40,8 +48,8 @@ pub(crate) fn assign(players: &mut [u32], player: u8, range: Range) -> Reply
     requires { ⌜ length (now players) ≡ players-words ⌝ }
     ensures { λ r. ⌜ Moves (λ s. step s (Assign player range)) (now (players .entry)) r (now (players .exit)) ⌝ }
 {
-    if player > 7 {
-        return refuse(28);
+    if player > layout::LAST_PLAYER {
+        return refuse(codes::OUT_OF_RANGE);
     }
     set_owner(players, player, range)
 }
@@ -51,5 +59,5 @@ pub(crate) fn release(players: &mut [u32], range: Range) -> Reply
     requires { ⌜ length (now players) ≡ players-words ⌝ }
     ensures { λ r. ⌜ Moves (λ s. step s (Release range)) (now (players .entry)) r (now (players .exit)) ⌝ }
 {
-    set_owner(players, 8, range)
+    set_owner(players, layout::NOBODY, range)
 }

@@ -1,10 +1,13 @@
 // Step 7: responses that reach the player. The length of the players' table is known; its rules are not tested.
 use crate::cells;
 use crate::refuse;
+use players::layout;
 use requests::Found;
 use requests::Request;
+use requests::kinds;
 use requests::region;
 use store::Reply;
+use store::codes;
 use store::words;
 ghost use mathlib.Core.Path.{_≡_};
 ghost use Prim.Native.Nat.{_≤_, _<_};
@@ -25,14 +28,14 @@ fn still_owned(players: &[u32], player: u8, low: u8, high: u16, serial: u32) -> 
     if e >= end {
         return false;
     }
-    if end > 256 {
+    if end > layout::ENTRIES {
         return false;
     }
     while e < end {
-        if players[1 + e] != player as u32 {
+        if players[layout::OWNERS + e] != player as u32 {
             return false;
         }
-        if players[257 + e] >= serial {
+        if players[layout::EPOCHS + e] >= serial {
             return false;
         }
         e += 1;
@@ -45,7 +48,7 @@ fn grant(players: &mut [u32], low: usize, high: usize, guard: u32)
     requires { ⌜ (length (now players) ≡ players-words) × (low ≤ high) × (high ≤ 2048) ⌝ }
     ensures { λ _. ⌜ now (players .exit) ≡ filled 513 low high guard (now (players .entry)) ⌝ }
 {
-    words::fill(&mut players[513 + low..513 + high], guard);
+    words::fill(&mut players[layout::HELD + low..layout::HELD + high], guard);
 }
 
 // Caches a value for the entry if the guard carried is the player's live one, and no write crossed it.
@@ -72,7 +75,7 @@ fn remember(
     }
     cells::cache(
         players,
-        player as usize * 256 + entry as usize,
+        player as usize * layout::ENTRIES + entry as usize,
         guard,
         version,
         value,
@@ -86,22 +89,22 @@ fn respond_guard_request(players: &mut [u32], r: Request) -> Reply
 {
     if !still_owned(players, r.player, r.low, r.high, r.serial) {
         return Reply {
-            code: 7,
+            code: codes::NOT_HELD,
             a: r.serial,
             b: 0,
         };
     }
     if r.first != 1 {
         return Reply {
-            code: 8,
+            code: codes::LAYOUT_CHANGED,
             a: r.serial,
             b: 0,
         };
     }
-    let i = r.player as usize * 256;
+    let i = r.player as usize * layout::ENTRIES;
     grant(players, i + r.low as usize, i + r.high as usize, r.serial);
     Reply {
-        code: 6,
+        code: codes::GRANTED,
         a: r.serial,
         b: 0,
     }
@@ -122,7 +125,7 @@ fn respond_read(players: &mut [u32], r: Request) -> Reply
         r.second,
     );
     Reply {
-        code: 3,
+        code: codes::STORE_READ,
         a: r.first,
         b: r.second,
     }
@@ -136,7 +139,7 @@ fn respond_write(players: &mut [u32], r: Request) -> Reply
     if r.first != 1 {
         cells::drop_guard(players, r.player, r.guard);
         return Reply {
-            code: 5,
+            code: codes::REJECTED,
             a: r.serial,
             b: 0,
         };
@@ -151,7 +154,7 @@ fn respond_write(players: &mut [u32], r: Request) -> Reply
         r.value,
     );
     Reply {
-        code: 4,
+        code: codes::COMMITTED,
         a: r.serial,
         b: r.value,
     }
@@ -162,10 +165,10 @@ fn respond_to(players: &mut [u32], r: Request) -> Reply
     requires { ⌜ (length (now players) ≡ players-words) × (r .player < 8) ⌝ }
     ensures { λ x. ⌜ Responds respond r (now (players .entry)) x (now (players .exit)) ⌝ }
 {
-    if r.kind == 3 {
+    if r.kind == kinds::GUARD_REQUEST {
         return respond_guard_request(players, r);
     }
-    if r.kind == 4 {
+    if r.kind == kinds::READ {
         return respond_read(players, r);
     }
     respond_write(players, r)
@@ -176,17 +179,17 @@ pub(crate) fn respond(players: &mut [u32], serial: u32) -> Reply
     requires { ⌜ length (now players) ≡ players-words ⌝ }
     ensures { λ r. ⌜ Moves (λ s. step s (Respond serial)) (now (players .entry)) r (now (players .exit)) ⌝ }
 {
-    let found = region::find(&players[8705..9473], serial);
+    let found = region::find(&players[layout::REQUESTS..layout::REQUESTS_END], serial);
     match found {
-        Found::Nowhere => refuse(32),
+        Found::Nowhere => refuse(codes::NO_SUCH_REQUEST),
         Found::At { place, request } => {
             if !request.delivered {
-                return refuse(32);
+                return refuse(codes::NO_SUCH_REQUEST);
             }
             if request.abandoned {
-                return refuse(32);
+                return refuse(codes::NO_SUCH_REQUEST);
             }
-            region::remove(&mut players[8705..9473], place);
+            region::remove(&mut players[layout::REQUESTS..layout::REQUESTS_END], place);
             respond_to(players, request)
         }
     }

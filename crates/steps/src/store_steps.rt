@@ -1,10 +1,13 @@
 // The steps that read or write the store's table. The tables' lengths are known; their rules are not tested.
 use crate::refuse;
+use players::layout;
 use requests::Found;
 use requests::Request;
+use requests::kinds;
 use requests::region;
 use store::Range;
 use store::Reply;
+use store::codes;
 ghost use mathlib.Core.Path.{_≡_};
 ghost use lib.ListN.{length};
 ghost use Rattle.store.specs.Calls.{Steps};
@@ -41,14 +44,14 @@ pub(crate) fn restart_tablet(store: &mut [u32], entry: u8) -> Reply
 fn perform(store: &mut [u32], r: Request) -> Reply
     ensures { λ x. ⌜ Steps (performed r) (now (store .entry)) x (now (store .exit)) ⌝ }
 {
-    if r.kind == 3 {
+    if r.kind == kinds::GUARD_REQUEST {
         let range = Range {
             low: r.low,
             high: r.high,
         };
         return store::steps::install(store, range, r.serial);
     }
-    if r.kind == 4 {
+    if r.kind == kinds::READ {
         return store::steps::read(store, r.low);
     }
     store::steps::commit(store, r.low, r.value, r.serial, r.guard)
@@ -60,10 +63,15 @@ fn settle(players: &mut [u32], k: usize, abandoned: bool, first: u32, second: u3
     ensures { λ _. ⌜ now (players .exit) ≡ settled-words k abandoned first second (now (players .entry)) ⌝ }
 {
     if abandoned {
-        region::remove(&mut players[8705..9473], k);
+        region::remove(&mut players[layout::REQUESTS..layout::REQUESTS_END], k);
         return;
     }
-    region::deliver(&mut players[8705..9473], k, first, second);
+    region::deliver(
+        &mut players[layout::REQUESTS..layout::REQUESTS_END],
+        k,
+        first,
+        second,
+    );
 }
 
 // Step 6: a request that is not delivered yet reaches the store. If it is abandoned, it leaves.
@@ -71,16 +79,16 @@ pub(crate) fn deliver(store: &mut [u32], players: &mut [u32], serial: u32) -> Re
     requires { ⌜ (length (now store) ≡ 1280) × (length (now players) ≡ players-words) ⌝ }
     ensures { λ r. ⌜ Acts (λ s. step s (Deliver serial)) (now (store .entry)) (now (players .entry)) r (now (store .exit)) (now (players .exit)) ⌝ }
 {
-    let found = region::find(&players[8705..9473], serial);
+    let found = region::find(&players[layout::REQUESTS..layout::REQUESTS_END], serial);
     match found {
-        Found::Nowhere => refuse(32),
+        Found::Nowhere => refuse(codes::NO_SUCH_REQUEST),
         Found::At { place, request } => {
             if request.delivered {
-                return refuse(32);
+                return refuse(codes::NO_SUCH_REQUEST);
             }
             let outcome = perform(store, request);
             settle(players, place, request.abandoned, outcome.a, outcome.b);
-            refuse(0)
+            refuse(codes::DONE)
         }
     }
 }

@@ -7,6 +7,7 @@ use Rattle.listing.proofs.PrintedLaws.{told, is-printed}
 use borrow.Author.Needs.{needs}
 use Rattle.listing.proofs.list.Statement.{statement}
 use Rattle.listing.proofs.list.Tie as tie
+use Rattle.players.specs.Table.{players-words}
 
 slice-aggregate-fresh : tie.Need-slice-aggregate-fresh
 slice-aggregate-fresh c = search needs
@@ -37,7 +38,7 @@ lines-requires c κs =
     let u = c .before .before .before .before .before .run in
     let f = c .before .before .before .before .before .before .before .before .before .before .before .fresh in
     let a = c .before .before .before .before .before .before .before .before .before .before .before .before .before .before .before .before .args in
-    let t = told (replicate 1280 0) (replicate 9473 0) (f .result) _ _ refl (f .ensures) (a .session .now) _ refl (u .result) _ _ _ (u .ensures) in
+    let t = told (replicate 1280 0) (replicate players-words 0) (f .result) _ _ refl (f .ensures) (a .session .now) _ refl (u .result) _ _ _ (u .ensures) in
     (omega (arith, t .few), omega (arith, t .few))
 
 same-length : tie.Need-same-length
@@ -48,7 +49,7 @@ returns c =
     let u = c .before .before .before .before .before .before .before .before .run in
     let f = c .before .before .before .before .before .before .before .before .before .before .before .before .before .before .fresh in
     let a = c .before .before .before .before .before .before .before .before .before .before .before .before .before .before .before .before .before .before .before .args in
-    let t = told (replicate 1280 0) (replicate 9473 0) (f .result) _ _ refl (f .ensures) (a .session .now) _ refl (u .result) _ _ _ (u .ensures) in
+    let t = told (replicate 1280 0) (replicate players-words 0) (f .result) _ _ refl (f .ensures) (a .session .now) _ refl (u .result) _ _ _ (u .ensures) in
     let l = c .before .before .lines in
     (l .ensures .0, is-printed (a .session .now) (u .result) _ t (l .result) _ (l .ensures .1))
 

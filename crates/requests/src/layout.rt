@@ -1,0 +1,32 @@
+// The requests: places of twelve words, one word for each field.
+pub const PLACES: usize = 64;
+
+pub const SIZE: usize = 12;
+
+pub const WORDS: usize = PLACES * SIZE;
+
+// Where the last place begins.
+pub const LAST_PLACE: usize = WORDS - SIZE;
+
+// The fields, after the serial.
+pub const PLAYER: usize = 1;
+
+pub const KIND: usize = 2;
+
+pub const LOW: usize = 3;
+
+pub const HIGH: usize = 4;
+
+pub const VALUE: usize = 5;
+
+pub const GUARD: usize = 6;
+
+pub const OVERLAPPED: usize = 7;
+
+pub const DELIVERED: usize = 8;
+
+pub const ABANDONED: usize = 9;
+
+pub const FIRST: usize = 10;
+
+pub const SECOND: usize = 11;

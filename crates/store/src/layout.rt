@@ -1,0 +1,22 @@
+// The store's table: five columns, each with a word for each entry.
+pub const ENTRIES: usize = 256;
+
+pub const BOUNDARIES: usize = 0;
+
+pub const STARTS: usize = BOUNDARIES + ENTRIES;
+
+pub const GUARDS: usize = STARTS + ENTRIES;
+
+pub const VERSIONS: usize = GUARDS + ENTRIES;
+
+pub const VALUES: usize = VERSIONS + ENTRIES;
+
+pub const WORDS: usize = VALUES + ENTRIES;
+
+// The words before the starts and the guards: the start and the guard of the interval before place k stand k words further.
+pub const BEFORE_STARTS: usize = STARTS - 1;
+
+pub const BEFORE_GUARDS: usize = GUARDS - 1;
+
+// The last serial.
+pub const SERIALS: u32 = 4_000_000;
