@@ -11,17 +11,13 @@ use lib.ListN.{getD, set}
 use borrow.Author.Tests.{eq-eqb, ne-eqb, eqb-true, eqb-false, leb-true, leb-false, ltb-true, ltb-false}
 use Rattle.store.specs.Model.{within, put}
 use Rattle.requests.proofs.Basics.{decide, passed-over}
-use Rattle.players.specs.Rules.{Cached, empty, Player, State, cleared-of, drop-guard}
+use Rattle.players.specs.Rules.{Cached, empty, Player, State, with-players, cleared-of, drop-guard}
 use Rattle.players.specs.Table.{the-held, the-guards, the-versions, the-values, cells, tableOf}
 use Rattle.players.proofs.Regions.{made-set}
 use Rattle.players.proofs.Tables.{made-of}
 use Rattle.steps.specs.Calls.{caching, dropped}
 use Rattle.steps.proofs.RunLaws.{within-in, within-below, within-above, same-cells, set-cells, put-part}
 use Rattle.steps.proofs.StateLaws.{held-word, field-cond}
-
--- the state with these players
-abbrev pub with-players : State → (ℕ → Player) → State
-with-players s f = record { last = s .last; owners = s .owners; store = s .store; player = f; requests = s .requests }
 
 -- tables are the same where what the players have is
 pub same-players : (s : State) (f g : ℕ → Player) → ((q x : ℕ) → q < 8 → x < 256 → f q .held x ≡ g q .held x) → ((q x : ℕ) → q < 8 → x < 256 → f q .cached x ≡ g q .cached x) → tableOf (with-players s f) ≡ tableOf (with-players s g)
