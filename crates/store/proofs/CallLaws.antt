@@ -13,8 +13,8 @@ use mathlib.Core.Logic.{⊎-elim}
 use borrow.Author.Tests.{eq-eqb, ne-eqb, le-leb, lt-leb, lt-ltb, le-ltb, eqb-true, eqb-false}
 use Rattle.store.specs.Model.{Store, serials, put, unbroken, tablet-first, tablet-end, committed, with-boundary}
 use Rattle.store.specs.Table.{part, seek, guardAt, storeOf, listed, tableOf, valid}
-use Rattle.store.specs.Words.{tested, rebuilt, install-words, read-words, commit-words, split-words, merge-words, restart-words}
-use Rattle.store.specs.Calls.{reply, Result, result, refusal, bad-serial, Done, done, encoded, checked, called, Steps}
+use Rattle.store.specs.Words.{tested, guarded-words, install-words, read-words, commit-words, split-words, merge-words, restart-words}
+use Rattle.store.specs.Calls.{reply, Result, result, refusal, bad-serial, Done, done, encoded, checked, called, Refines}
 use Rattle.store.specs.declared.Reply.{Reply}
 use Rattle.store.specs.declared.Range.{Range}
 use Rattle.store.proofs.Bools.{decide}
@@ -96,7 +96,7 @@ module _ (t : List ℕ) (w : length t ≡ 1280) where
     unfolding install-words storeOf part
     install-across h k u = rw (eq-eqb (length t) 1280 w, lt-ltb (r .low) (r .high) h, le-leb (r .high) 256 k, u)
 
-    pub install-set : r .low < r .high → r .high ≤ 256 → unbroken bounds (r .low + 1) (r .high - (r .low + 1)) ≡ true → (t′ : List ℕ) → t′ ≡ rebuilt (r .low) (r .high) g t → done (reply 0 1 0) t′ ≡ tested (install-words r g) t
+    pub install-set : r .low < r .high → r .high ≤ 256 → unbroken bounds (r .low + 1) (r .high - (r .low + 1)) ≡ true → (t′ : List ℕ) → t′ ≡ guarded-words (r .low) (r .high) g t → done (reply 0 1 0) t′ ≡ tested (install-words r g) t
     unfolding install-words storeOf part
     install-set h k u t′ s = rw (eq-eqb (length t) 1280 w, lt-ltb (r .low) (r .high) h, le-leb (r .high) 256 k, u, s)
 
@@ -150,7 +150,7 @@ module _ (t : List ℕ) (w : length t ≡ 1280) where
     unfolding merge-words
     merge-set z x = rw (eq-eqb (length t) 1280 w, ne-eqb e 0 z, ne-eqb (getD t e 0) 0 x)
 
-    pub restart-is : (lo hi : ℕ) → lo ≡ tablet-first bounds e → hi ≡ tablet-end bounds e (255 - e) → (t′ : List ℕ) → t′ ≡ rebuilt lo hi 0 t → done (reply 0 0 0) t′ ≡ tested (restart-words e) t
+    pub restart-is : (lo hi : ℕ) → lo ≡ tablet-first bounds e → hi ≡ tablet-end bounds e (255 - e) → (t′ : List ℕ) → t′ ≡ guarded-words lo hi 0 t → done (reply 0 0 0) t′ ≡ tested (restart-words e) t
     unfolding restart-words storeOf part
     restart-is lo hi el eh t′ s = rw (eq-eqb (length t) 1280 w, s, el, eh)
 
@@ -191,7 +191,7 @@ module _ (t : List ℕ) (r : Reply) (e : r ≡ checked serials t) where
     declined f a k = rw (passed .0, passed .1, k, table-store serials t long holds)
 
     -- the call is the step
-    pub finished : (f : Store → Result) (a : Reply) (t′ : List ℕ) → Steps f t a t′ → done a t′ ≡ called f t
+    pub finished : (f : Store → Result) (a : Reply) (t′ : List ℕ) → Refines f t a t′ → done a t′ ≡ called f t
     finished f a t′ s = rw (passed .0, passed .1) (s .right serials long holds)
 
   module _ (z : r .code ≡ 0) (g : Store → Result) (n : ℕ) where
@@ -202,5 +202,5 @@ module _ (t : List ℕ) (r : Reply) (e : r ≡ checked serials t) where
     pub wrong-serial : bad-serial n ≡ true → done (reply 28 0 0) t ≡ called guarded-call t
     wrong-serial h = declined z guarded-call (reply 28 0 0) (rw h)
 
-    pub good-serial : bad-serial n ≡ false → (a : Reply) (t′ : List ℕ) → Steps g t a t′ → done a t′ ≡ called guarded-call t
+    pub good-serial : bad-serial n ≡ false → (a : Reply) (t′ : List ℕ) → Refines g t a t′ → done a t′ ≡ called guarded-call t
     good-serial h a t′ s = rw h (finished z g a t′ s)

@@ -14,7 +14,8 @@ use lib.Seq.{length-take-le, take-suc, drop-cons, set-at, getD-take, getD-drop, 
 use borrow.Rule.Slice.PartMut.{putMid}
 use borrow.Author.Tests.{le-leb, lt-leb}
 use Rattle.store.specs.Table.{part}
-use Rattle.store.specs.Walk.{moved, cleared, spliced, pieces, replaced}
+use Rattle.store.specs.Inner.{moved, cleared}
+use Rattle.store.specs.Words.{spliced, pieces, replaced}
 use Rattle.store.proofs.Bools.{decide}
 use Rattle.store.proofs.Parts.{length-part, joined-parts, part-head, part-skip, put-at}
 

@@ -13,7 +13,7 @@ use lib.Seq.{take-suc, take-suc-set, take-all, take-at, length-take-le}
 use borrow.Author.Tests.{eq-eqb}
 use borrow.Rule.Slice.PartMut.{putMid}
 use Rattle.store.specs.Model.{fresh}
-use Rattle.store.specs.Table.{listed, runs, coded, tableOf}
+use Rattle.store.specs.Table.{listed, laid, coded, tableOf}
 
 -- ---- `copy`: one number more is written, and all are
 
@@ -45,7 +45,7 @@ pub column-more : (t p : List ℕ) (b m c : ℕ) → b ≤ length t → take b t
 column-more t p b m c h q e em ec = rw (em, ec) (column t p b 256 h q e)
 
 fresh-words : set (replicate 1280 0) 0 1 ≡ tableOf fresh
-unfolding tableOf listed coded runs
+unfolding tableOf listed coded laid
 fresh-words = refl
 
 pub fresh-table : (t : List ℕ) → take 1280 t ≡ replicate 1280 0 → length t ≡ 1280 → set t 0 1 ≡ tableOf fresh

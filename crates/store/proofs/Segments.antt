@@ -11,7 +11,7 @@ use lib.Dec.{T, leb, ltb, eqb}
 use lib.ListN.{length, getD, take, drop, replicate, length-replicate}
 use borrow.Author.Tests.{ne-eqb, le-leb, lt-leb, lt-ltb, le-ltb, leb-true, leb-false, ltb-true, ltb-false}
 use Rattle.store.specs.Table.{seek, guardAt, listed, coded, start, label, intervals}
-use Rattle.store.specs.Walk.{place}
+use Rattle.store.specs.Words.{place}
 use Rattle.store.proofs.Bools.{decide, and-both}
 use Rattle.store.proofs.Lists.{listed-same}
 use Rattle.store.proofs.Intervals.{Rising, end, next, is-rising, seek-zeros, seek-before, seek-past}

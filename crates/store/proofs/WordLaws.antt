@@ -10,15 +10,14 @@ use lib.ListN.{length, getD, drop}
 use borrow.Author.Tests.{eq-eqb, ne-eqb, lt-ltb, eqb-true, eqb-false, ltb-true, leb-true}
 use Rattle.store.specs.Model.{Store, bad-range, one-tablet, guarded, commits}
 use Rattle.store.specs.Table.{part, storeOf, tableOf, valid}
-use Rattle.store.specs.Walk.{place, replaced}
-use Rattle.store.specs.Calls.{reply, Result, result, Done, done, encoded, Steps, install, read, commit, split, merge, restart}
-use Rattle.store.specs.Words.{tested, rebuilt, install-words, read-words, commit-words, split-words, merge-words, restart-words}
+use Rattle.store.specs.Calls.{reply, Result, result, Done, done, encoded, Refines, install, read, commit, split, merge, restart}
+use Rattle.store.specs.Words.{tested, place, replaced, guarded-words, install-words, read-words, commit-words, split-words, merge-words, restart-words}
 use Rattle.store.specs.declared.Reply.{Reply}
 use Rattle.store.specs.declared.Range.{Range}
 use Rattle.store.proofs.Parts.{part-at}
 use Rattle.store.proofs.Tables.{table-store}
 use Rattle.store.proofs.TabletLaws.{tablet-range}
-use Rattle.store.proofs.Rebuilt.{rebuilt-new, rebuilt-on}
+use Rattle.store.proofs.GuardedWords.{guarded-new, guarded-on}
 use Rattle.store.proofs.CallLaws.{set-boundary, set-cell}
 
 -- ---- the guards, as the code finds its places
@@ -28,12 +27,12 @@ second true b x y f = rw (f refl)
 second false b x y f = refl
 
 module _ (t : List ℕ) (lo hi g : ℕ) (x b c : ℕ) (ex : x ≡ 1 + place lo (drop 1 (part 256 t))) (eb : b ≡ x + place (hi + 1) (drop x (part 256 t))) (ec : c ≡ b + place 256 (drop b (part 256 t))) where
-  pub new-words : 0 < lo → (getD t (511 + x) 0 ≡ g → ⊥) → replaced t x b c lo hi g ≡ rebuilt lo hi g t
-  unfolding rebuilt
+  pub new-words : 0 < lo → (getD t (511 + x) 0 ≡ g → ⊥) → replaced t x b c lo hi g ≡ guarded-words lo hi g t
+  unfolding guarded-words
   new-words o ne = rw (← ex, ← eb, ← ec, lt-ltb 0 lo o, ne-eqb (getD t (511 + x) 0) g ne)
 
-  pub on-words : (0 < lo → getD t (511 + x) 0 ≡ g) → replaced t (x - 1) b c (getD t (255 + x) 0) hi g ≡ rebuilt lo hi g t
-  unfolding rebuilt
+  pub on-words : (0 < lo → getD t (511 + x) 0 ≡ g) → replaced t (x - 1) b c (getD t (255 + x) 0) hi g ≡ guarded-words lo hi g t
+  unfolding guarded-words
   on-words eg = rw (← ex, ← eb, ← ec) (sym (second (ltb 0 lo) (eqb (getD t (511 + x) 0) g) _ _ (λ o. eq-eqb (getD t (511 + x) 0) g (eg (ltb-true 0 lo o)))))
 
 -- one of two ways
@@ -52,15 +51,15 @@ not-both true false e h = absurd (true≢false e)
 not-both false b e h = absurd (true≢false (sym h))
 
 module _ (n : ℕ) (t : List ℕ) (w : length t ≡ 1280) (v : T (valid n t)) where
-  pub rebuilt-right : (lo hi g : ℕ) → lo < hi → hi ≤ 256 → rebuilt lo hi g t ≡ tableOf (guarded (storeOf t) lo hi g)
-  unfolding rebuilt
-  rebuilt-right lo hi g h k =
+  pub guarded-words-right : (lo hi g : ℕ) → lo < hi → hi ≤ 256 → guarded-words lo hi g t ≡ tableOf (guarded (storeOf t) lo hi g)
+  unfolding guarded-words
+  guarded-words-right lo hi g h k =
       let x = 1 + place lo (drop 1 (part 256 t)) in
       either (ltb 0 lo && not (eqb (getD t (511 + x) 0) g)) _ _ _
       (λ e.
       let o = both _ _ e in
-      rebuilt-new t w lo hi g h k n v _ _ _ refl refl refl (ltb-true 0 lo (o .0)) (eqb-false _ g (o .1)))
-      (λ e. rebuilt-on t w lo hi g h k n v _ _ _ refl refl refl (λ o. eqb-true _ g (not-both _ _ e (lt-ltb 0 lo o))))
+      guarded-new t w lo hi g h k n v _ _ _ refl refl refl (ltb-true 0 lo (o .0)) (eqb-false _ g (o .1)))
+      (λ e. guarded-on t w lo hi g h k n v _ _ _ refl refl refl (λ o. eqb-true _ g (not-both _ _ e (lt-ltb 0 lo o))))
 
   -- the table stays
   same : (r : Reply) → done r t ≡ encoded (result r (storeOf t))
@@ -83,7 +82,7 @@ module _ (n : ℕ) (t : List ℕ) (w : length t ≡ 1280) (v : T (valid n t)) wh
       (λ e.
       let o = in-range _ _ e in
       one-of (one-tablet (storeOf t) (r .low) (r .high)) _ _ _ _
-      (λ _. ap (done (reply 0 1 0)) (rebuilt-right (r .low) (r .high) g (ltb-true (r .low) (r .high) (o .0)) (leb-true (r .high) 256 (o .1))))
+      (λ _. ap (done (reply 0 1 0)) (guarded-words-right (r .low) (r .high) g (ltb-true (r .low) (r .high) (o .0)) (leb-true (r .high) 256 (o .1))))
       (λ _. same _))
 
   module _ (e : ℕ) (h : e < 256) where
@@ -115,29 +114,29 @@ module _ (n : ℕ) (t : List ℕ) (w : length t ≡ 1280) (v : T (valid n t)) wh
     unfolding restart-words
     restart-right =
         let o = tablet-range (storeOf t .boundary) e _ _ h refl refl in
-        ap (done (reply 0 0 0)) (rebuilt-right _ _ 0 (o .0) (o .1))
+        ap (done (reply 0 0 0)) (guarded-words-right _ _ 0 (o .0) (o .1))
 
--- ---- what a crate above needs of the steps
+-- ---- what a crate above needs: on a table that keeps the rules each call does what Calls says
 
-steps-of : (f : Store → Result) (w : List ℕ → Done) (t : List ℕ) (r : Reply) (t′ : List ℕ) → ((n : ℕ) → length t ≡ 1280 → T (valid n t) → w t ≡ encoded (f (storeOf t))) → done r t′ ≡ tested w t → Steps f t r t′
-steps-of f w t r t′ h e = record { wrong = λ x. e ∙ rw (ne-eqb (length t) 1280 x); right = λ n l v. e ∙ rw (eq-eqb (length t) 1280 l) (h n l v) }
+refines-of : (f : Store → Result) (w : List ℕ → Done) (t : List ℕ) (r : Reply) (t′ : List ℕ) → ((n : ℕ) → length t ≡ 1280 → T (valid n t) → w t ≡ encoded (f (storeOf t))) → done r t′ ≡ tested w t → Refines f t r t′
+refines-of f w t r t′ h e = record { wrong = λ x. e ∙ rw (ne-eqb (length t) 1280 x); right = λ n l v. e ∙ rw (eq-eqb (length t) 1280 l) (h n l v) }
 
 module _ {t : List ℕ} {r : Reply} {t′ : List ℕ} where
-  pub install-steps : (g : Range) (s : ℕ) → done r t′ ≡ tested (install-words g s) t → Steps (install g s) t r t′
-  install-steps g s = steps-of (install g s) (install-words g s) t r t′ (λ n l v. install-right n t l v g s)
+  pub install-refines : (g : Range) (s : ℕ) → done r t′ ≡ tested (install-words g s) t → Refines (install g s) t r t′
+  install-refines g s = refines-of (install g s) (install-words g s) t r t′ (λ n l v. install-right n t l v g s)
 
   module _ (e : ℕ) (h : e < 256) where
-    pub read-steps : done r t′ ≡ tested (read-words e) t → Steps (read e) t r t′
-    read-steps = steps-of (read e) (read-words e) t r t′ (λ n l v. read-right n t l v e h)
+    pub read-refines : done r t′ ≡ tested (read-words e) t → Refines (read e) t r t′
+    read-refines = refines-of (read e) (read-words e) t r t′ (λ n l v. read-right n t l v e h)
 
-    pub commit-steps : (x s g : ℕ) → done r t′ ≡ tested (commit-words e x s g) t → Steps (commit e x s g) t r t′
-    commit-steps x s g = steps-of (commit e x s g) (commit-words e x s g) t r t′ (λ n l v. commit-right n t l v e h x s g)
+    pub commit-refines : (x s g : ℕ) → done r t′ ≡ tested (commit-words e x s g) t → Refines (commit e x s g) t r t′
+    commit-refines x s g = refines-of (commit e x s g) (commit-words e x s g) t r t′ (λ n l v. commit-right n t l v e h x s g)
 
-    pub split-steps : done r t′ ≡ tested (split-words e) t → Steps (split e) t r t′
-    split-steps = steps-of (split e) (split-words e) t r t′ (λ n l v. split-right n t l v e h)
+    pub split-refines : done r t′ ≡ tested (split-words e) t → Refines (split e) t r t′
+    split-refines = refines-of (split e) (split-words e) t r t′ (λ n l v. split-right n t l v e h)
 
-    pub merge-steps : done r t′ ≡ tested (merge-words e) t → Steps (merge e) t r t′
-    merge-steps = steps-of (merge e) (merge-words e) t r t′ (λ n l v. merge-right n t l v e h)
+    pub merge-refines : done r t′ ≡ tested (merge-words e) t → Refines (merge e) t r t′
+    merge-refines = refines-of (merge e) (merge-words e) t r t′ (λ n l v. merge-right n t l v e h)
 
-    pub restart-steps : done r t′ ≡ tested (restart-words e) t → Steps (restart e) t r t′
-    restart-steps = steps-of (restart e) (restart-words e) t r t′ (λ n l v. restart-right n t l v e h)
+    pub restart-refines : done r t′ ≡ tested (restart-words e) t → Refines (restart e) t r t′
+    restart-refines = refines-of (restart e) (restart-words e) t r t′ (λ n l v. restart-right n t l v e h)

@@ -4,7 +4,7 @@ use mathlib.Core.Path.{_≡_, refl, sym, _∙_}
 use Prim.Native.Nat.{ℕ, _≤_, _-_, _+_}
 use native.Mathlib.Omega.{arith}
 use lib.ListN.{drop}
-use Rattle.store.specs.Walk.{place}
+use Rattle.store.specs.Words.{place}
 use Rattle.store.proofs.Turns.{place-unused, place-later, place-more, place-end}
 use Rattle.store.proofs.guards.find_place.Statement.{statement}
 use Rattle.store.proofs.guards.find_place.Tie as tie

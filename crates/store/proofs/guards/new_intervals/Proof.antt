@@ -1,7 +1,7 @@
 -- `store::guards::new_intervals` meets its contract.
 -- Assumes nothing.
 use borrow.Author.Tests.{eq-eqb, ne-eqb}
-use Rattle.store.specs.Walk.{pieces}
+use Rattle.store.specs.Words.{pieces}
 use Rattle.store.proofs.guards.new_intervals.Statement.{statement}
 use Rattle.store.proofs.guards.new_intervals.Tie as tie
 

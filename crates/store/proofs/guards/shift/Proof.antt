@@ -5,7 +5,7 @@ use Prim.Native.Nat.{_≤_, _<_, _-_, _+_}
 use native.Mathlib.Omega.{arith}
 use lib.ListN.{length, length-set}
 use borrow.Author.Needs.{needs}
-use Rattle.store.specs.Walk.{moved}
+use Rattle.store.specs.Inner.{moved}
 use Rattle.store.proofs.Columns.{moved-none, moved-up, moved-down}
 use Rattle.store.proofs.guards.shift.Statement.{statement}
 use Rattle.store.proofs.guards.shift.Tie as tie

@@ -1,4 +1,4 @@
--- `store::guards::rebuild` meets its contract.
+-- `store::guards::set_over` meets its contract.
 -- Assumes nothing.
 use mathlib.Core.Path.{_∙_}
 use mathlib.Core.Logic.{inl, inr}
@@ -6,8 +6,8 @@ use native.Mathlib.Omega.{arith}
 use borrow.Author.Needs.{needs}
 use Rattle.store.specs.Table.{part}
 use Rattle.store.proofs.WordLaws.{new-words, on-words}
-use Rattle.store.proofs.guards.rebuild.Statement.{statement}
-use Rattle.store.proofs.guards.rebuild.Tie as tie
+use Rattle.store.proofs.guards.set_over.Statement.{statement}
+use Rattle.store.proofs.guards.set_over.Tie as tie
 
 sub-find-place : tie.Need-sub-find-place
 sub-find-place c = search needs
@@ -118,8 +118,8 @@ returns-2 c =
       | inr x ↦ λ o. absurd (omega (arith, x .left, o))
     ])
 
-pub rebuild-spec : {M : Type 1} → statement M
-rebuild-spec =
+pub set-over-spec : {M : Type 1} → statement M
+set-over-spec =
     tie.close
     (tie.spec
     sub-find-place
