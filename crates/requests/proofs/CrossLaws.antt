@@ -1,29 +1,31 @@
--- A write that crosses requests: the pass that marks them.
+-- A pass over the requests, and what it marks.
 -- Assumes nothing.
-use mathlib.Core.Path.{_≡_, refl, sym, _∙_}
+use mathlib.Core.Path.{_≡_, refl, sym, ap, _∙_}
 use mathlib.Core.Bool.{Bool, true, false, cond}
 use mathlib.Core.List.{List, _++_, append-assoc}
-use Prim.Native.Nat.{ℕ, suc, _+_, _-_, _*_, _≤_, _<_}
+use Prim.Native.Nat.{ℕ, zero, suc, _+_, _-_, _*_, _≤_, _<_}
 use native.Mathlib.Omega.{arith}
+use lib.Dec.{eqb}
 use lib.ListN.{length, getD, take, drop, set, take-append-drop}
 use lib.Seq.{take-add, take-set-le, drop-set-lt, drop-set-add}
 use borrow.Author.Tests.{eq-eqb, ne-eqb}
 use Rattle.requests.specs.declared.Request.{Request}
+use Rattle.requests.specs.declared.Look.{Look}
 use Rattle.requests.specs.declared.Scan.{Scan}
-use Rattle.requests.specs.Model.{writing, using-entry}
-use Rattle.requests.specs.Region.{requestAt}
-use Rattle.requests.specs.Calls.{scanned, overlapped-from, crossing, crossed}
+use Rattle.requests.specs.Model.{places}
+use Rattle.requests.specs.Region.{requestOf, requestAt, whole}
+use Rattle.requests.specs.Calls.{scanned, overlapped-from, sought, crossed, pass, passed}
 use Rattle.requests.proofs.Basics.{cond-elim}
 use Rattle.requests.proofs.ScanLaws.{no-requests, first-word, next-place, scan-at}
 
 -- the words, once the places below k have been passed
-abbrev pub passed : (Request → Bool) → ℕ → List ℕ → List ℕ
-passed f k w = take (k * 12) w ++ overlapped-from f (64 - k) (drop (k * 12) w)
+abbrev pub words-at : (Request → Bool) → ℕ → List ℕ → List ℕ
+words-at f k w = take (k * 12) w ++ overlapped-from f (64 - k) (drop (k * 12) w)
 
 module _ (f : Request → Bool) (w : List ℕ) (k : ℕ) where
-  pub passed-end : 64 ≤ k → passed f k w ≡ w
+  pub words-end : 64 ≤ k → words-at f k w ≡ w
   unfolding overlapped-from
-  passed-end h =
+  words-end h =
       let x : 64 - k ≡ 0 = omega arith in
       rw x (take-append-drop (k * 12) w)
 
@@ -31,9 +33,9 @@ module _ (f : Request → Bool) (w : List ℕ) (k : ℕ) where
     one : 64 - k ≡ suc (64 - (k + 1))
     one = omega arith
 
-    pub passed-unused : getD w (k * 12) 0 ≡ 0 → passed f k w ≡ w
+    pub words-unused : getD w (k * 12) 0 ≡ 0 → words-at f k w ≡ w
     unfolding overlapped-from
-    passed-unused z = rw (one, first-word w k, eq-eqb (getD w (k * 12) 0) 0 z) (take-append-drop (k * 12) w)
+    words-unused z = rw (one, first-word w k, eq-eqb (getD w (k * 12) 0) 0 z) (take-append-drop (k * 12) w)
 
     -- place k is passed
     module _ (b : Bool) (w′ : List ℕ) (eb : f (requestAt w k) ≡ b) (ew : w′ ≡ cond b (set w (k * 12 + 7) 1) w) where
@@ -57,21 +59,36 @@ module _ (f : Request → Bool) (w : List ℕ) (k : ℕ) where
       pub after-place : drop ((k + 1) * 12) w′ ≡ drop ((k + 1) * 12) w
       after-place = rw ew (next-place (cond b (set w (k * 12 + 7) 1) w) k ∙ rw (from-place b, behind b) (sym (next-place w k)))
 
-      pub passed-on : (getD w (k * 12) 0 ≡ 0 → ⊥) → passed f k w ≡ passed f (k + 1) w′
+      pub words-on : (getD w (k * 12) 0 ≡ 0 → ⊥) → words-at f k w ≡ words-at f (k + 1) w′
       unfolding overlapped-from
-      passed-on z =
+      words-on z =
           let n : (k + 1) * 12 ≡ k * 12 + 12 = omega arith in
           let t : take ((k + 1) * 12) w′ ≡ take (k * 12) w ++ take 12 y = rw (n, take-add (k * 12) 12 w′, before, ew, from-place b) in
           rw (one, first-word w k, ne-eqb (getD w (k * 12) 0) 0 z, eb, t, after-place, next-place w k) (sym (append-assoc (take (k * 12) w) (take 12 y) (overlapped-from f (64 - (k + 1)) (drop 12 x))))
 
-module _ (p e : ℕ) (w : List ℕ) where
-  pub cross-none : (length w ≡ 768 → ⊥) → crossing (record { used = 0; hit = false }) w ≡ crossed p e w
-  unfolding crossed
-  cross-none h = rw (no-requests w h, ne-eqb (length w) 768 h)
+module _ (x : Look) (w : List ℕ) where
+  pub pass-none : (length w ≡ 768 → ⊥) → pass (record { used = 0; hit = false }) w ≡ passed x w
+  unfolding passed
+  pass-none h = rw (no-requests w h, ne-eqb (length w) 768 h)
 
-  pub cross-done : length w ≡ 768 → (s : Scan) (w′ : List ℕ) → s ≡ scanned (writing p e) w → w′ ≡ overlapped-from (using-entry p e) 64 w → crossing s w′ ≡ crossed p e w
-  unfolding crossed
-  cross-done h s w′ es ew = rw (eq-eqb (length w) 768 h, es, ew)
+  pub pass-done : length w ≡ 768 → (s : Scan) (w′ : List ℕ) → s ≡ scanned (sought x) w → w′ ≡ overlapped-from (crossed x) 64 w → pass s w′ ≡ passed x w
+  unfolding passed
+  pass-done h s w′ es ew = rw (eq-eqb (length w) 768 h, es, ew)
 
 pub same-scan : (f : Request → Bool) (w w′ : List ℕ) (k : ℕ) (b : Bool) → drop (k * 12) w′ ≡ drop (k * 12) w → scan-at f w k b ≡ scan-at f w′ k b
 same-scan f w w′ k b e = rw e
+
+same : (b : Bool) (l : List ℕ) → cond b l l ≡ l
+same true l = refl
+same false l = refl
+
+-- a pass that marks nothing leaves the words as they are
+overlapped-none : (f : Request → Bool) → ((r : Request) → f r ≡ false) → (n : ℕ) (w : List ℕ) → overlapped-from f n w ≡ w
+unfolding overlapped-from
+overlapped-none f h zero w = refl
+overlapped-none f h (suc n) w =
+    rw (h (requestOf w), overlapped-none f h n (drop 12 w), take-append-drop 12 w) (same (eqb (getD w 0 0) 0) w)
+
+pub pass-unmarked : (x : Look) → ((r : Request) → crossed x r ≡ false) → (w : List ℕ) → passed x w ≡ pass (scanned (sought x) w) w
+unfolding passed
+pass-unmarked x h w = rw (overlapped-none (crossed x) h places w) (ap (pass (scanned (sought x) w)) (same (whole w) w))

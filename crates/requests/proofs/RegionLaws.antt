@@ -2,7 +2,7 @@
 -- Assumes nothing.
 use mathlib.Core.Path.{_≡_, refl, sym, ap, _∙_}
 use mathlib.Core.Logic.{⊎-elim}
-use mathlib.Core.Bool.{Bool, true, false, cond, _&&_}
+use mathlib.Core.Bool.{Bool, true, false, cond}
 use mathlib.Core.List.{List, [], _∷_, _++_, map}
 use Prim.Native.Nat.{ℕ, zero, suc, _+_, _-_, _*_, _≤_, _<_}
 use native.Mathlib.Nat.{add-zero, zero-add, sub-zero, not-suc-le-zero, le-of-suc-le-suc}
@@ -10,12 +10,14 @@ use native.Mathlib.Omega.{arith}
 use lib.Dec.{leb, eqb}
 use lib.ListN.{length, getD, take, drop, set, replicate, getD-replicate, length-replicate, length-map, replicate-append-replicate}
 use lib.Seq.{take-append-add, drop-append-add, drop-at, getD-append-add}
-use borrow.Author.Tests.{eq-eqb, ne-eqb, lt-ltb, leb-true, leb-false, eqb-true}
+use borrow.Author.Tests.{eq-eqb, ne-eqb, lt-ltb, leb-true, leb-false}
 use Rattle.requests.specs.declared.Request.{Request}
+use Rattle.requests.specs.declared.Fit.{Fit}
+use Rattle.requests.specs.declared.Look.{Look}
 use Rattle.requests.specs.declared.Found.the-variants.{At, Nowhere}
-use Rattle.requests.specs.Model.{places, by, serial-is, writing, using-entry, any, keep, find, drop-request, change-request, mark-overlapped, mark-abandoned, mark-delivered}
+use Rattle.requests.specs.Model.{places, by, named, any, keep, find, drop-request, change-request, mark-overlapped, mark-abandoned, mark-delivered}
 use Rattle.requests.specs.Region.{requestOf, requestsFrom, whole, requestsOf, wordsOf, placed, regionOf}
-use Rattle.requests.specs.Calls.{found-from, found, scanned, full, over, with-request, with-abandoned, with-delivered, closed, without, overlapped-from, crossing, crossed, remains, give-up, remaining, restarted}
+use Rattle.requests.specs.Calls.{found-from, found, scanned, full, over, with-request, with-abandoned, with-delivered, closed, without, overlapped-from, sought, crossed, pass, passed, remains, give-up, remaining, restarted}
 use Rattle.requests.proofs.Basics.{decide, cond-elim}
 use Rattle.requests.proofs.Rising.{Each, In, here, there, fewer-kept}
 use Rattle.requests.proofs.RequestRules.{Fits, request-fits}
@@ -54,52 +56,40 @@ module _ (Q : Request → Type 0) where
   drop-above n p (r ∷ rs) h t =
       rw (ne-eqb (r .serial) n (λ e. omega (arith, t .0)), drop-above n (r .serial) rs (omega (arith, t .0)) (t .2))
 
-  find-above : {A : Type 0} (f : Request → Bool) (n p : ℕ) (rs : List Request) (x : A) (go : Request → A) → n ≤ p → Each Q p rs → find (λ r. serial-is n r && f r) rs x go ≡ x
-  find-above f n p [] x go h t = refl
-  find-above f n p (r ∷ rs) x go h t =
-      rw (ne-eqb (r .serial) n (λ e. omega (arith, t .0))) (find-above f n (r .serial) rs x go (omega (arith, t .0)) (t .2))
-
-  -- the request that stands at a place is the one that its serial names
-  pub find-standing : {A : Type 0} {r : Request} {k : ℕ} {rs : List Request} (f : Request → Bool) (x : A) (go : Request → A) (p : ℕ) → Each Q p rs → Stands r k rs
-      → find (λ q. serial-is (r .serial) q && f q) rs x go ≡ cond (f r) (go r) x
-  find-standing {r = r} f x go p t (first {rs}) = rw (eq-eqb (r .serial) (r .serial) refl, find-above f (r .serial) (r .serial) rs x go (omega arith) (t .2))
-  find-standing {r = r} f x go p t (later {q = q} s) =
-      rw (ne-eqb (q .serial) (r .serial) (λ e. omega (arith, stands-above (q .serial) (t .2) s))) (find-standing f x go (q .serial) (t .2) s)
-
 -- ---- what a search finds
 
 -- the place that is found, where the list's first is at place i
-record Lies (n i k : ℕ) (r : Request) (rs : List Request) : Type 0 where
+record Lies (f : Fit) (n i k : ℕ) (r : Request) (rs : List Request) : Type 1 where
   place : ℕ
   counted : k ≡ i + place
   stands : Stands r place rs
-  serial : r .serial ≡ n
+  found-first : {A : Type 0} (x : A) (go : Request → A) → find (named f n) rs x go ≡ go r
 
-lies-cond : (n i k : ℕ) (r q : Request) (rs : List Request) (b : Bool) → serial-is n q ≡ b → At k r ≡ cond b (At i q) (found-from n (i + 1) rs)
-    → (At k r ≡ found-from n (i + 1) rs → Lies n (i + 1) k r rs) → Lies n i k r (q ∷ rs)
-lies-cond n i k r q rs true eb e g =
+lies-cond : (f : Fit) (n i k : ℕ) (r q : Request) (rs : List Request) (b : Bool) → named f n q ≡ b → At k r ≡ cond b (At i q) (found-from f n (i + 1) rs)
+    → (At k r ≡ found-from f n (i + 1) rs → Lies f n (i + 1) k r rs) → Lies f n i k r (q ∷ rs)
+lies-cond f n i k r q rs true eb e g =
     let z : k ≡ i = cc in
     let y : r ≡ q = cc in
-    rw y (record { place = 0; counted = z ∙ sym (add-zero i); stands = first; serial = eqb-true (q .serial) n eb })
-lies-cond n i k r q rs false eb e g =
+    rw y (record { place = 0; counted = z ∙ sym (add-zero i); stands = first; found-first = λ x go. rw eb })
+lies-cond f n i k r q rs false eb e g =
     let l = g e in
-    record { place = suc (l .place); counted = let c = l .counted in omega arith; stands = later (l .stands); serial = l .serial }
+    record { place = suc (l .place); counted = let c = l .counted in omega arith; stands = later (l .stands); found-first = λ x go. rw eb (l .found-first x go) }
 
-lies : (n i k : ℕ) (r : Request) (rs : List Request) → At k r ≡ found-from n i rs → Lies n i k r rs
+lies : (f : Fit) (n i k : ℕ) (r : Request) (rs : List Request) → At k r ≡ found-from f n i rs → Lies f n i k r rs
 unfolding found-from
-lies n i k r [] e = let z : _≡_ {A = ℕ} 0 1 = cc in absurd (omega arith)
-lies n i k r (q ∷ rs) e = lies-cond n i k r q rs (serial-is n q) refl e (λ p. lies n (i + 1) k r rs p)
+lies f n i k r [] e = let z : _≡_ {A = ℕ} 0 1 = cc in absurd (omega arith)
+lies f n i k r (q ∷ rs) e = lies-cond f n i k r q rs (named f n q) refl e (λ p. lies f n (i + 1) k r rs p)
 
-nowhere-cond : {A : Type 0} (n i : ℕ) (f : Request → Bool) (r : Request) (rs : List Request) (x : A) (go : Request → A) (b : Bool)
-    → Nowhere ≡ cond b (At i r) (found-from n (i + 1) rs) → (Nowhere ≡ found-from n (i + 1) rs → find (λ r. serial-is n r && f r) rs x go ≡ x)
-    → cond (b && f r) (go r) (find (λ r. serial-is n r && f r) rs x go) ≡ x
-nowhere-cond n i f r rs x go true e g = let z : _≡_ {A = ℕ} 0 1 = cc in absurd (omega arith)
-nowhere-cond n i f r rs x go false e g = g e
+nowhere-cond : {A : Type 0} (f : Fit) (n i : ℕ) (r : Request) (rs : List Request) (x : A) (go : Request → A) (b : Bool)
+    → Nowhere ≡ cond b (At i r) (found-from f n (i + 1) rs) → (Nowhere ≡ found-from f n (i + 1) rs → find (named f n) rs x go ≡ x)
+    → cond b (go r) (find (named f n) rs x go) ≡ x
+nowhere-cond f n i r rs x go true e g = let z : _≡_ {A = ℕ} 0 1 = cc in absurd (omega arith)
+nowhere-cond f n i r rs x go false e g = g e
 
-find-nowhere : {A : Type 0} (f : Request → Bool) (n i : ℕ) (rs : List Request) (x : A) (go : Request → A) → Nowhere ≡ found-from n i rs → find (λ r. serial-is n r && f r) rs x go ≡ x
+find-nowhere : {A : Type 0} (f : Fit) (n i : ℕ) (rs : List Request) (x : A) (go : Request → A) → Nowhere ≡ found-from f n i rs → find (named f n) rs x go ≡ x
 unfolding found-from
 find-nowhere f n i [] x go e = refl
-find-nowhere f n i (r ∷ rs) x go e = nowhere-cond n i f r rs x go (serial-is n r) e (λ p. find-nowhere f n (i + 1) rs x go p)
+find-nowhere f n i (r ∷ rs) x go e = nowhere-cond f n i r rs x go (named f n r) e (λ p. find-nowhere f n (i + 1) rs x go p)
 
 -- what is found fits its fields, in any region
 abbrev AllFit : List Request → Type 0
@@ -120,10 +110,10 @@ stands-fit : {r : Request} {k : ℕ} {rs : List Request} → AllFit rs → Stand
 stands-fit f first = f .0
 stands-fit f (later s) = stands-fit (f .1) s
 
-pub found-fits : (n k : ℕ) (r : Request) (w : List ℕ) → At k r ≡ found n w → Fits r
+pub found-fits : (f : Fit) (n k : ℕ) (r : Request) (w : List ℕ) → At k r ≡ found f n w → Fits r
 unfolding requestsOf
-found-fits n k r w e =
-    stands-fit (cond-elim AllFit (whole w) (requestsFrom places w) [] (λ _. all-fit places w) (λ _. tt)) (lies n 0 k r (requestsOf w) e .stands)
+found-fits f n k r w e =
+    stands-fit (cond-elim AllFit (whole w) (requestsFrom places w) [] (λ _. all-fit places w) (λ _. tt)) (lies f n 0 k r (requestsOf w) e .stands)
 
 -- ---- words of places
 
@@ -294,21 +284,18 @@ module _ (n : ℕ) (rs : List Request) (few : length rs ≤ places) (q : Request
       (decide (leb places (length rs)))
 
   -- nothing is found
-  pub nowhere-region : {A : Type 0} (f : Request → Bool) (i : ℕ) (x : A) (go : Request → A) → Nowhere ≡ found i (regionOf rs) → find (λ r. serial-is i r && f r) rs x go ≡ x
-  nowhere-region f i x go e = find-nowhere f i 0 rs x go (e ∙ ap (found-from i 0) (requests-region n rs few q))
+  pub nowhere-region : {A : Type 0} (f : Fit) (i : ℕ) (x : A) (go : Request → A) → Nowhere ≡ found f i (regionOf rs) → find (named f i) rs x go ≡ x
+  nowhere-region f i x go e = find-nowhere f i 0 rs x go (e ∙ ap (found-from f i 0) (requests-region n rs few q))
 
-  module _ (i k : ℕ) (r : Request) (e : At k r ≡ found i (regionOf rs)) where
-    here-lies : Lies i 0 k r rs
-    here-lies = lies i 0 k r rs (e ∙ ap (found-from i 0) (requests-region n rs few q))
-
-    pub found-serial : r .serial ≡ i
-    found-serial = here-lies .serial
+  module _ (f : Fit) (i k : ℕ) (r : Request) (e : At k r ≡ found f i (regionOf rs)) where
+    here-lies : Lies f i 0 k r rs
+    here-lies = lies f i 0 k r rs (e ∙ ap (found-from f i 0) (requests-region n rs few q))
 
     pub found-stands : Stands r k rs
     found-stands = let l = here-lies in let z : k ≡ l .place = l .counted ∙ zero-add (l .place) in rw z (l .stands)
 
-    pub found-region : {A : Type 0} (f : Request → Bool) (x : A) (go : Request → A) → find (λ r. serial-is i r && f r) rs x go ≡ cond (f r) (go r) x
-    found-region f x go = rw (← found-serial) (find-standing _ f x go 0 q found-stands)
+    pub found-region : {A : Type 0} (x : A) (go : Request → A) → find (named f i) rs x go ≡ go r
+    found-region x go = here-lies .found-first x go
 
   -- the request at place k
   module _ {k : ℕ} {r : Request} (s : Stands r k rs) where
@@ -329,9 +316,9 @@ module _ (n : ℕ) (rs : List Request) (few : length rs ≤ places) (q : Request
         rw (is-whole rs)
         (sets-from (regionOf rs) (k * 12) 8 1 10 a 11 b ∙ change-placed _ places (mark-delivered a b) (λ w. set (set (set w 8 1) 10 a) 11 b) (λ x. refl) 0 q few s)
 
-  pub crossed-region : (i e : ℕ) → crossed i e (regionOf rs) ≡ crossing (record { used = length rs; hit = any (writing i e) rs }) (regionOf (map (λ r. cond (using-entry i e r) (mark-overlapped r) r) rs))
-  unfolding crossed
-  crossed-region i e = rw (requests-region n rs few q, is-whole rs, overlapped-placed (using-entry i e) n 0 places rs q few)
+  pub passed-region : (x : Look) → passed x (regionOf rs) ≡ pass (record { used = length rs; hit = any (sought x) rs }) (regionOf (map (λ r. cond (crossed x r) (mark-overlapped r) r) rs))
+  unfolding passed
+  passed-region x = rw (requests-region n rs few q, is-whole rs, overlapped-placed (crossed x) n 0 places rs q few)
 
   pub restarted-region : (i : ℕ) → restarted i (regionOf rs) ≡ regionOf (given-up i rs)
   unfolding restarted

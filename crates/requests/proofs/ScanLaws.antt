@@ -1,7 +1,8 @@
 -- A pass over the places of a region: the requests from place k on, a case for each way that a turn goes.
 -- Assumes nothing.
-use mathlib.Core.Path.{_≡_, sym, ap, _∙_}
-use mathlib.Core.Bool.{Bool, false, _||_, or-false, or-assoc}
+use mathlib.Core.Path.{_≡_, refl, sym, ap, _∙_}
+use mathlib.Core.Logic.{⊎-elim}
+use mathlib.Core.Bool.{Bool, true, false, _||_, or-false, or-assoc}
 use mathlib.Core.List.{List, [], _∷_}
 use Prim.Native.Nat.{ℕ, suc, _+_, _-_, _*_, _≤_, _<_}
 use native.Mathlib.Nat.{add-zero, zero-add}
@@ -10,11 +11,15 @@ use lib.ListN.{length, getD, drop}
 use lib.Seq.{getD-drop, drop-drop}
 use borrow.Author.Tests.{eq-eqb, ne-eqb}
 use Rattle.requests.specs.declared.Request.{Request}
+use Rattle.requests.specs.declared.Fit.{Fit}
+use Rattle.requests.specs.declared.Found.{Found}
 use Rattle.requests.specs.declared.Found.the-variants.{At, Nowhere}
 use Rattle.requests.specs.declared.Scan.{Scan}
-use Rattle.requests.specs.Model.{any}
-use Rattle.requests.specs.Region.{requestAt, requestsFrom, requestsOf}
-use Rattle.requests.specs.Calls.{found-from, found, scanned}
+use Rattle.requests.specs.Model.{fits, named, any, find}
+use Rattle.requests.specs.Region.{requestAt, requestsFrom, requestsOf, wordsOf}
+use Rattle.requests.specs.Answers.{gives, refused, no-such-request}
+use Rattle.requests.specs.Calls.{found-from, found, numbers, ahead, Finds, scanned}
+use Rattle.requests.proofs.Basics.{decide}
 use Rattle.requests.proofs.Placed.{serial-of}
 
 -- the requests from place k on
@@ -62,27 +67,48 @@ module _ (w : List ℕ) where
 
 -- ---- a search
 
-module _ (w : List ℕ) (n : ℕ) where
-  pub find-none : (length w ≡ 768 → ⊥) → Nowhere ≡ found n w
+module _ (w : List ℕ) (f : Fit) (n : ℕ) where
+  pub find-none : (length w ≡ 768 → ⊥) → Nowhere ≡ found f n w
   unfolding found-from
   find-none h = rw (no-requests w h)
 
-  pub find-start : length w ≡ 768 → found-from n 0 (from w 0) ≡ found n w
-  find-start h = ap (found-from n 0) (from-start w h)
+  pub find-start : length w ≡ 768 → found-from f n 0 (from w 0) ≡ found f n w
+  find-start h = ap (found-from f n 0) (from-start w h)
 
   module _ (k : ℕ) where
-    pub find-end : from w k ≡ [] → found-from n k (from w k) ≡ Nowhere
+    pub find-end : from w k ≡ [] → found-from f n k (from w k) ≡ Nowhere
     unfolding found-from
     find-end e = rw e
 
-    module _ (h : k < 64) (z : getD w (k * 12) 0 ≡ 0 → ⊥) where
-      pub find-hit : getD w (k * 12) 0 ≡ n → found-from n k (from w k) ≡ At k (requestAt w k)
-      unfolding found-from
-      find-hit e = rw (from-used w k h z, eq-eqb (requestAt w k .serial) n (serial-at w k ∙ e))
+    pub other-serial : (getD w (k * 12) 0 ≡ n → ⊥) → false ≡ named f n (requestAt w k)
+    other-serial e = rw (ne-eqb (requestAt w k .serial) n (λ y. e (sym (serial-at w k) ∙ y)))
 
-      pub find-on : (getD w (k * 12) 0 ≡ n → ⊥) → found-from n k (from w k) ≡ found-from n (k + 1) (from w (k + 1))
+    pub this-serial : getD w (k * 12) 0 ≡ n → fits f (requestAt w k) ≡ named f n (requestAt w k)
+    this-serial e = rw (eq-eqb (requestAt w k .serial) n (serial-at w k ∙ e))
+
+    module _ (h : k < 64) (z : getD w (k * 12) 0 ≡ 0 → ⊥) (b : Bool) (eb : b ≡ named f n (requestAt w k)) where
+      pub find-hit : b ≡ true → found-from f n k (from w k) ≡ At k (requestAt w k)
       unfolding found-from
-      find-on e = rw (from-used w k h z, ne-eqb (requestAt w k .serial) n (λ y. e (sym (serial-at w k) ∙ y)))
+      find-hit e = rw (from-used w k h z, ← eb, e)
+
+      pub find-on : b ≡ false → found-from f n k (from w k) ≡ found-from f n (k + 1) (from w (k + 1))
+      unfolding found-from
+      find-on e = rw (from-used w k h z, ← eb, e)
+
+-- the numbers of a search among requests the first of which is at place k
+numbers-from : (f : Fit) (n k : ℕ) (rs : List Request) → numbers (found-from f n k rs) ≡ find (named f n) rs (refused no-such-request) (λ r. gives ((k + ahead (named f n) rs) ∷ wordsOf r))
+unfolding found-from
+numbers-from f n k [] = refl
+numbers-from f n k (r ∷ rs) =
+    ⊎-elim
+    (λ t. rw t (ap (λ (j : ℕ). gives (j ∷ wordsOf r)) (sym (add-zero k))))
+    (λ t.
+    let x : k + 1 + ahead (named f n) rs ≡ k + (ahead (named f n) rs + 1) = omega arith in
+    rw t (numbers-from f n (k + 1) rs ∙ rw x))
+    (decide (named f n r))
+
+pub finds : (f : Fit) (n : ℕ) (w : List ℕ) (r : Found) → r ≡ found f n w → Finds f n w r
+finds f n w r e = record { answer = e; numbered = ap numbers e ∙ numbers-from f n 0 (requestsOf w) ∙ rw zero-add }
 
 -- ---- a count, with a test
 

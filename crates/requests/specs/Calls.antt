@@ -1,26 +1,51 @@
 -- What each call finds in a region, and does to it. A region that is not whole has no requests, and stays as it is.
 -- Assumes nothing.
-use mathlib.Core.Bool.{Bool, cond, not, _&&_}
+use mathlib.Core.Path.{_≡_}
+use mathlib.Core.Bool.{Bool, false, cond, not, _&&_}
 use mathlib.Core.List.{List, [], _∷_, _++_}
 use Prim.Native.Nat.{ℕ, zero, suc, _+_, _-_, _*_}
 use lib.Dec.{ltb, eqb}
 use lib.ListN.{length, getD, take, drop, set, replicate}
 use Rattle.requests.specs.declared.Request.{Request}
+use Rattle.requests.specs.declared.Fit.{Fit}
 use Rattle.requests.specs.declared.Found.{Found}
 use Rattle.requests.specs.declared.Found.the-variants.{At, Nowhere}
+use Rattle.requests.specs.declared.Look.{Look}
+use Rattle.requests.specs.declared.Look.the-variants.{Requesting, Writing, Crossing}
 use Rattle.requests.specs.declared.Scan.{Scan}
-use Rattle.requests.specs.Model.{places, by, pending, serial-is, writing, using-entry, any, mark-abandoned}
+use Rattle.requests.specs.Model.{places, by, pending, named, requesting, writing, using-entry, any, find, mark-abandoned}
 use Rattle.requests.specs.Region.{requestOf, whole, requestsOf, wordsOf}
+use Rattle.requests.specs.Answers.{Numbers, gives, refused, no-such-request}
 
 -- ---- what is found
 
--- the request with serial n and its place, where the list's first is at place k
-unfoldable pub found-from : ℕ → ℕ → List Request → Found
-found-from n k [] = Nowhere
-found-from n k (r ∷ rs) = cond (serial-is n r) (At k r) (found-from n (k + 1) rs)
+-- the request with serial n that fits, and its place, where the list's first is at place k
+unfoldable pub found-from : Fit → ℕ → ℕ → List Request → Found
+found-from f n k [] = Nowhere
+found-from f n k (r ∷ rs) = cond (named f n r) (At k r) (found-from f n (k + 1) rs)
 
-abbrev pub found : ℕ → List ℕ → Found
-found n w = found-from n 0 (requestsOf w)
+abbrev pub found : Fit → ℕ → List ℕ → Found
+found f n w = found-from f n 0 (requestsOf w)
+
+-- the numbers of each case of that answer: 0 with the place and the request's twelve words, or the refusal's number and two zeros
+abbrev pub numbers : Found → Numbers
+numbers (At k r) = gives (k ∷ wordsOf r)
+numbers Nowhere = refused no-such-request
+
+-- how many requests stand ahead of the first of which the test holds
+abbrev pub ahead : (Request → Bool) → List Request → ℕ
+ahead f [] = 0
+ahead f (r ∷ rs) = cond (f r) 0 (ahead f rs + 1)
+
+-- those of a region, by its requests alone
+abbrev pub found-numbers : Fit → ℕ → List ℕ → Numbers
+found-numbers f n w =
+    find (named f n) (requestsOf w) (refused no-such-request) (λ r. gives (ahead (named f n) (requestsOf w) ∷ wordsOf r))
+
+-- what a search promises: the answer, and its numbers
+pub record Finds (f : Fit) (n : ℕ) (w : List ℕ) (r : Found) : Type 0 where
+  pub answer : r ≡ found f n w
+  pub numbered : numbers r ≡ found-numbers f n w
 
 -- how many requests there are, and whether the test holds of one
 abbrev pub scanned : (Request → Bool) → List ℕ → Scan
@@ -65,17 +90,28 @@ unfoldable pub overlapped-from : (Request → Bool) → ℕ → List ℕ → Lis
 overlapped-from f zero w = w
 overlapped-from f (suc n) w = cond (eqb (getD w 0 0) 0) w (take 12 (cond (f (requestOf w)) (set w 7 1) w) ++ overlapped-from f n (drop 12 w))
 
+-- what a pass looks for: in step 3 ‘a waiting guard request of this player’, which shares an entry, in steps 4 and 5 a waiting write by this player on this entry
+abbrev pub sought : Look → Request → Bool
+sought (Requesting p g) r = requesting p g r
+sought (Writing p e) r = writing p e r
+sought (Crossing p e) r = writing p e r
+
+-- what it marks. Step 5: ‘marks this player's waiting reads and writes on the entry overlapped’
+abbrev pub crossed : Look → Request → Bool
+crossed (Requesting p g) r = false
+crossed (Writing p e) r = false
+crossed (Crossing p e) r = using-entry p e r
+
 -- what a pass tells, and the region after it
-pub record Crossing : Type 0 where
+pub record Pass : Type 0 where
   pub scan : Scan
   pub words : List ℕ
 
-abbrev pub crossing : Scan → List ℕ → Crossing
-crossing s w = record { scan = s; words = w }
+abbrev pub pass : Scan → List ℕ → Pass
+pass s w = record { scan = s; words = w }
 
--- a write by the player on the entry crosses its pending reads and writes there
-unfoldable pub crossed : ℕ → ℕ → List ℕ → Crossing
-crossed p e w = crossing (scanned (writing p e) w) (cond (whole w) (overlapped-from (using-entry p e) places w) w)
+unfoldable pub passed : Look → List ℕ → Pass
+passed x w = pass (scanned (sought x) w) (cond (whole w) (overlapped-from (crossed x) places w) w)
 
 -- a request remains when the player restarts: all but those of its pending ones that are delivered
 abbrev pub remains : ℕ → Request → Bool

@@ -1,11 +1,11 @@
 // The requests in flight as a lent list of records, 64 places, and the count of a player's pending ones.
-use crate::Request;
+use crate::LentRequest;
 use store::Reply;
 ghost use mathlib.Core.Path.{_≡_};
 ghost use Rattle.requests.specs.Lent.{counts, one-more, answer, waiting};
 
 // Whether a place holds a pending request of the player.
-fn counts(r: Request, player: u8) -> bool
+fn counts(r: LentRequest, player: u8) -> bool
     ensures { λ b. ⌜ b ≡ counts player r ⌝ }
 {
     if r.serial == 0 {
@@ -14,11 +14,11 @@ fn counts(r: Request, player: u8) -> bool
     if r.player != player {
         return false;
     }
-    !r.abandoned
+    r.abandoned == 0
 }
 
 // The count after one place more; it stays at the largest number.
-fn one_more(n: u32, r: Request, player: u8) -> u32
+fn one_more(n: u32, r: LentRequest, player: u8) -> u32
     ensures { λ m. ⌜ m ≡ one-more player n r ⌝ }
 {
     if !counts(r, player) {
@@ -53,7 +53,7 @@ fn answer(places: usize, player: u8, n: u32) -> Reply
 }
 
 // How many pending requests of the player there are in a lent list (document: waiting rows).
-pub fn waiting(list: &[Request], player: u8) -> Reply
+pub fn waiting(list: &[LentRequest], player: u8) -> Reply
     ensures { λ r. ⌜ r ≡ waiting player (now (list .entry)) ⌝ }
 {
     let mut n: u32 = 0;

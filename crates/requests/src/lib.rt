@@ -1,4 +1,6 @@
 // The requests in flight between the players and the store: 64 places of 12 words, as specs/Region.antt lays them out.
+use store::Range;
+
 pub mod kinds;
 pub mod layout;
 pub mod lent;
@@ -8,7 +10,6 @@ mod rules;
 mod tests;
 
 // A request in flight (document: row). Fields that its kind lacks are 0, and so is the outcome before delivery.
-#[repr(C)]
 pub struct Request {
     pub serial: u32,
     pub player: u8,
@@ -30,13 +31,52 @@ pub struct Request {
     pub second: u32,
 }
 
+// One place of the lent list, laid out as C does: a request, where the serial is not 0. A mark stands where its number is not 0.
+#[repr(C)]
+pub struct LentRequest {
+    pub serial: u32,
+    pub player: u8,
+    pub kind: u8,
+    pub low: u8,
+    pub high: u16,
+    pub value: u32,
+    pub guard: u32,
+    pub overlapped: u8,
+    pub delivered: u8,
+    pub abandoned: u8,
+    pub first: u32,
+    pub second: u32,
+}
+
+// Which requests a step that names one fits.
+pub enum Fit {
+    // step 6 (document: not arrived)
+    Undelivered,
+    // step 7: delivered and pending (document: arrived and waiting)
+    Answerable,
+    // step 8 (document: waiting)
+    Pending,
+    // step 9 (document: given up)
+    Abandoned,
+}
+
 // The request that a search gives, and its place.
 pub enum Found {
     At { place: usize, request: Request },
     Nowhere,
 }
 
-// What a pass over the requests tells: how many there are, and whether one is of the kind that is looked for.
+// What a pass over the requests looks for.
+pub enum Look {
+    // step 3: a pending guard request of the player that shares an entry with the range
+    Requesting { player: u8, range: Range },
+    // step 4: a pending write of the player on the entry
+    Writing { player: u8, entry: u8 },
+    // step 5: the same, and the player's pending reads and writes there are marked overlapped
+    Crossing { player: u8, entry: u8 },
+}
+
+// What a pass over the requests tells: how many there are, and whether one is of those that are looked for.
 pub struct Scan {
     pub used: usize,
     pub hit: bool,

@@ -1,4 +1,6 @@
 // One place of the region: 12 words, which hold a request.
+use crate::Fit;
+use crate::Look;
 use crate::Request;
 use crate::layout;
 use crate::tests;
@@ -9,12 +11,12 @@ ghost use mathlib.Core.Bool.{cond, not, _&&_};
 ghost use Prim.Native.Nat.{_+_, _*_, _%_, _≤_, _<_};
 ghost use lib.Dec.{ltb, eqb};
 ghost use lib.ListN.{length, getD, take, drop, set, replicate};
-ghost use Rattle.requests.specs.Model.{by, using-entry};
+ghost use Rattle.requests.specs.Model.{by, named};
 ghost use Rattle.requests.specs.Region.{requestAt, bit, wordsOf};
-ghost use Rattle.requests.specs.Calls.{over, closed, carried, carry};
+ghost use Rattle.requests.specs.Calls.{over, closed, crossed, carried, carry};
 
 // A word cut to a player.
-fn octal(x: u32) -> u8
+fn player_of(x: u32) -> u8
     ensures { λ r. ⌜ r ≡ x % 8 ⌝ }
 {
     (x % 8) as u8
@@ -49,7 +51,7 @@ pub(crate) fn request_at(region: &[u32], k: usize) -> Request
     let b = k * layout::SIZE;
     Request {
         serial: region[b],
-        player: octal(region[b + layout::PLAYER]),
+        player: player_of(region[b + layout::PLAYER]),
         kind: byte(region[b + layout::KIND]),
         low: byte(region[b + layout::LOW]),
         high: half(region[b + layout::HIGH]),
@@ -61,6 +63,17 @@ pub(crate) fn request_at(region: &[u32], k: usize) -> Request
         first: region[b + layout::FIRST],
         second: region[b + layout::SECOND],
     }
+}
+
+// Whether the request of place `k` has the serial, and fits.
+pub(crate) fn is_named(region: &[u32], k: usize, serial: u32, fit: Fit) -> bool
+    requires { ⌜ (k < 64) × (length (now region) ≡ 768) ⌝ }
+    ensures { λ r. ⌜ r ≡ named fit serial (requestAt (now (region .entry)) k) ⌝ }
+{
+    if region[k * layout::SIZE] != serial {
+        return false;
+    }
+    tests::fits(request_at(region, k), fit)
 }
 
 // Whether there is a place `k`, and it is used.
@@ -123,12 +136,12 @@ pub(crate) fn close(region: &mut [u32], k: usize)
     drop_first(&mut region[k * layout::SIZE..]);
 }
 
-// Marks the request `r` of place `k` as overlapped if it is a pending read or write of the player on the entry.
-pub(crate) fn overlap(region: &mut [u32], k: usize, r: Request, player: u8, entry: u8)
+// Marks the request `r` of place `k` as overlapped if a write crosses it.
+pub(crate) fn overlap(region: &mut [u32], k: usize, r: Request, look: Look)
     requires { ⌜ (k < 64) × (length (now region) ≡ 768) ⌝ }
-    ensures { λ _. ⌜ now (region .exit) ≡ cond (using-entry player entry r) (set (now (region .entry)) (k * 12 + 7) 1) (now (region .entry)) ⌝ }
+    ensures { λ _. ⌜ now (region .exit) ≡ cond (crossed look r) (set (now (region .entry)) (k * 12 + 7) 1) (now (region .entry)) ⌝ }
 {
-    if !tests::is_using(r, player, entry) {
+    if !tests::is_crossed(r, look) {
         return;
     }
     region[k * layout::SIZE + layout::OVERLAPPED] = 1;

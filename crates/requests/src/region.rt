@@ -1,17 +1,17 @@
 // The calls on a region. One that is not whole, of 768 words, has no requests and stays as it is.
+use crate::Fit;
 use crate::Found;
+use crate::Look;
 use crate::Request;
 use crate::Scan;
 use crate::layout;
 use crate::places;
 use crate::rules;
 use crate::tests;
-use store::Range;
 use store::words;
 ghost use mathlib.Core.Path.{_≡_};
-ghost use Rattle.requests.specs.Model.{requesting, writing};
 ghost use Rattle.requests.specs.Region.{valid};
-ghost use Rattle.requests.specs.Calls.{found, scanned, full, with-request, with-abandoned, with-delivered, without, crossing, crossed, restarted};
+ghost use Rattle.requests.specs.Calls.{Finds, full, with-request, with-abandoned, with-delivered, without, pass, passed, restarted};
 
 // Whether a region keeps the rules, where `last` is the last serial issued.
 pub fn holds(region: &[u32], last: u32) -> bool
@@ -25,72 +25,25 @@ pub fn holds(region: &[u32], last: u32) -> bool
 
 // ---- what is found
 
-// The request with a serial, and its place.
-pub fn find(region: &[u32], serial: u32) -> Found
-    ensures { λ r. ⌜ r ≡ found serial (now (region .entry)) ⌝ }
+// The request with a serial, if it fits, and its place.
+pub fn find(region: &[u32], serial: u32, fit: Fit) -> Found
+    ensures { λ r. ⌜ Finds fit serial (now (region .entry)) r ⌝ }
 {
     if region.len() != layout::WORDS {
         return Found::Nowhere;
     }
     let mut k = 0;
     while k < layout::PLACES {
-        let next = region[k * layout::SIZE];
-        if next == 0 {
+        if region[k * layout::SIZE] == 0 {
             return Found::Nowhere;
         }
-        if next == serial {
+        if places::is_named(region, k, serial, fit) {
             let request = places::request_at(region, k);
             return Found::At { place: k, request };
         }
         k += 1;
     }
     Found::Nowhere
-}
-
-// How many requests there are, and whether a pending guard request of the player shares an entry with the range.
-pub fn scan_requests(region: &[u32], player: u8, range: Range) -> Scan
-    ensures { λ r. ⌜ r ≡ scanned (requesting player range) (now (region .entry)) ⌝ }
-{
-    if region.len() != layout::WORDS {
-        return Scan {
-            used: 0,
-            hit: false,
-        };
-    }
-    let mut hit = false;
-    let mut k = 0;
-    while k < layout::PLACES {
-        if region[k * layout::SIZE] == 0 {
-            return Scan { used: k, hit };
-        }
-        let r = places::request_at(region, k);
-        hit = tests::either(hit, tests::is_requesting(r, player, range));
-        k += 1;
-    }
-    Scan { used: k, hit }
-}
-
-// How many requests there are, and whether a write of the player on the entry is pending.
-pub fn scan_writes(region: &[u32], player: u8, entry: u8) -> Scan
-    ensures { λ r. ⌜ r ≡ scanned (writing player entry) (now (region .entry)) ⌝ }
-{
-    if region.len() != layout::WORDS {
-        return Scan {
-            used: 0,
-            hit: false,
-        };
-    }
-    let mut hit = false;
-    let mut k = 0;
-    while k < layout::PLACES {
-        if region[k * layout::SIZE] == 0 {
-            return Scan { used: k, hit };
-        }
-        let r = places::request_at(region, k);
-        hit = tests::either(hit, tests::is_writing(r, player, entry));
-        k += 1;
-    }
-    Scan { used: k, hit }
 }
 
 // Whether the last place is used.
@@ -161,9 +114,9 @@ pub fn remove(region: &mut [u32], k: usize)
 
 // ---- all places changed
 
-// Marks the player's pending reads and writes on the entry as overlapped, as `scan_writes` passes over them.
-pub fn cross(region: &mut [u32], player: u8, entry: u8) -> Scan
-    ensures { λ r. ⌜ crossing r (now (region .exit)) ≡ crossed player entry (now (region .entry)) ⌝ }
+// How many requests there are, and whether one is looked for. Those that a write crosses are marked as overlapped.
+pub fn scan(region: &mut [u32], look: Look) -> Scan
+    ensures { λ r. ⌜ pass r (now (region .exit)) ≡ passed look (now (region .entry)) ⌝ }
 {
     if region.len() != layout::WORDS {
         return Scan {
@@ -171,24 +124,18 @@ pub fn cross(region: &mut [u32], player: u8, entry: u8) -> Scan
             hit: false,
         };
     }
-    let mut writes = false;
+    let mut hit = false;
     let mut k = 0;
     while k < layout::PLACES {
         if region[k * layout::SIZE] == 0 {
-            return Scan {
-                used: k,
-                hit: writes,
-            };
+            return Scan { used: k, hit };
         }
         let r = places::request_at(region, k);
-        writes = tests::either(writes, tests::is_writing(r, player, entry));
-        places::overlap(region, k, r, player, entry);
+        hit = tests::either(hit, tests::is_sought(r, look));
+        places::overlap(region, k, r, look);
         k += 1;
     }
-    Scan {
-        used: k,
-        hit: writes,
-    }
+    Scan { used: k, hit }
 }
 
 // Gives up the player's pending requests: those delivered leave, the others are abandoned.

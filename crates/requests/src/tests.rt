@@ -1,11 +1,13 @@
 // Tests of one request.
+use crate::Fit;
+use crate::Look;
 use crate::Request;
 use crate::kinds;
 use store::Range;
 ghost use mathlib.Core.Path.{_≡_};
 ghost use mathlib.Core.Bool.{_||_};
-ghost use Rattle.requests.specs.Model.{requesting, writing, using-entry};
-ghost use Rattle.requests.specs.Calls.{remains};
+ghost use Rattle.requests.specs.Model.{fits, requesting, writing, using-entry};
+ghost use Rattle.requests.specs.Calls.{sought, crossed, remains};
 
 // A pending guard request of the player that shares an entry with the range.
 pub(crate) fn is_requesting(r: Request, player: u8, range: Range) -> bool
@@ -56,6 +58,45 @@ pub(crate) fn is_using(r: Request, player: u8, entry: u8) -> bool
         return false;
     }
     r.low == entry
+}
+
+// Whether it is looked for.
+pub(crate) fn is_sought(r: Request, look: Look) -> bool
+    ensures { λ b. ⌜ b ≡ sought look r ⌝ }
+{
+    match look {
+        Look::Requesting { player, range } => is_requesting(r, player, range),
+        Look::Writing { player, entry } => is_writing(r, player, entry),
+        Look::Crossing { player, entry } => is_writing(r, player, entry),
+    }
+}
+
+// Whether a write crosses it.
+pub(crate) fn is_crossed(r: Request, look: Look) -> bool
+    ensures { λ b. ⌜ b ≡ crossed look r ⌝ }
+{
+    match look {
+        Look::Requesting { player, range } => false,
+        Look::Writing { player, entry } => false,
+        Look::Crossing { player, entry } => is_using(r, player, entry),
+    }
+}
+
+// Whether a step that names it fits it.
+pub(crate) fn fits(r: Request, fit: Fit) -> bool
+    ensures { λ b. ⌜ b ≡ fits fit r ⌝ }
+{
+    match fit {
+        Fit::Undelivered => !r.delivered,
+        Fit::Answerable => {
+            if r.abandoned {
+                return false;
+            }
+            r.delivered
+        }
+        Fit::Pending => !r.abandoned,
+        Fit::Abandoned => r.abandoned,
+    }
 }
 
 // Whether a request remains when the player restarts: all but those of its pending ones that are delivered.

@@ -1,5 +1,5 @@
 -- `requests::lent::waiting` meets its contract: a walk of its MIR, by hand, with a loop. The loop's state is the place k and the count n, with the fact that n and the places from k on give the count of all the places.
--- A turn looks into the slice, copies the request of place k out, shuts it, and calls `one_more`. After the loop `answer` is called. All that the walk knows of the two is that each meets its contract.
+-- A turn looks into the slice, copies place k out, shuts it, and calls `one_more`. After the loop `answer` is called. All that the walk knows of the two is that each meets its contract.
 -- Assumes nothing.
 use mathlib.Core.Path.{_≡_, refl, sym, _∙_, ap}
 use Prim.Native.Nat.{ℕ, _+_, _-_, _*_, _≤_, _<_, _^_, zero-le}
@@ -7,7 +7,6 @@ use native.Mathlib.Nat.{lt-of-le-of-lt}
 use native.Mathlib.Numerals.{add-one, add-one-le, add-one-dec}
 use native.Mathlib.Omega.{arith}
 use mathlib.Core.WellFounded.{WellFounded, InvImage·wf}
-use mathlib.Core.Bool.{false}
 use mathlib.Core.List.{List, [], _∷_}
 use lib.ListN.{length, getD, drop as drop-list, drop-of-length-le}
 use lib.Seq.{drop-cons}
@@ -50,10 +49,10 @@ use denote.Triple.Walked.{says, Stays, stay-none-slice, stay-none, walkOf, goes-
 use denote.Triple.Clauses.{ensured, lasts}
 use denote.Exit.{yes}
 use Rattle.requests.specs.Lent.{one-more, counted, answer as answer-of-list, waiting as waiting-in}
-use Rattle.requests.specs.declared.Request.{Request}
+use Rattle.requests.specs.declared.LentRequest.{LentRequest}
 use Rattle.store.specs.declared.Reply.{Reply}
-use Rattle.requests.proofs.Request as R
-use Rattle.requests.proofs.Request.Laws as R′
+use Rattle.requests.proofs.LentRequest as R
+use Rattle.requests.proofs.LentRequest.Laws as R′
 use Rattle.store.proofs.Reply as N
 use Rattle.store.proofs.Reply.Laws as N′
 use Rattle.requests.proofs.lent.one_more as added
@@ -93,9 +92,9 @@ after (call f xs d) = skip
 abbrev more : Body
 more = after (after (after mir′.turn-1))
 
--- a request, for a place past the end
-abbrev none : Request
-none = record { serial = 0; player = 0; kind = 0; low = 0; high = 0; value = 0; guard = 0; overlapped = false; delivered = false; abandoned = false; first = 0; second = 0 }
+-- a place, for one past the end
+abbrev none : LentRequest
+none = record { serial = 0; player = 0; kind = 0; low = 0; high = 0; value = 0; guard = 0; overlapped = 0; delivered = 0; abandoned = 0; first = 0; second = 0 }
 
 module _ {M : Type 1} (𝓤 : URA M) (H : Heap 𝓤) (A : Atoms 𝓤) (mem : Memory → SProp 𝓤) (run : Routine → Fun 𝓤) where
   -- the contracts that the proof cites, and of what each ensures the clause alone
@@ -105,14 +104,14 @@ module _ {M : Type 1} (𝓤 : URA M) (H : Heap 𝓤) (A : Atoms 𝓤) (mem : Mem
   abbrev Answer : Contract 𝓤
   Answer = tripleOf 𝓤 H A answer.signature (answer.spec 𝓤 H A mem run)
 
-  added-of : (n : ℕ) (d : Request) (p r : ℕ) → ent 𝓤 (ensured 𝓤 H A added.ended (added.clauses 𝓤 H A mem run) tt (n, (d, (p, tt))) tt r) (fact 𝓤 (r ≡ one-more p n d))
+  added-of : (n : ℕ) (d : LentRequest) (p r : ℕ) → ent 𝓤 (ensured 𝓤 H A added.ended (added.clauses 𝓤 H A mem run) tt (n, (d, (p, tt))) tt r) (fact 𝓤 (r ≡ one-more p n d))
   added-of n d p r = exE 𝓤 _ (λ ws. snd∗ 𝓤 (sem 𝓤 H A (lasts added.ended tt (n, (d, (p, tt))) ws)) (fact 𝓤 (r ≡ one-more p n d)))
 
   answer-of : (m p n : ℕ) (r : Reply) → ent 𝓤 (ensured 𝓤 H A answer.ended (answer.clauses 𝓤 H A mem run) tt (m, (p, (n, tt))) tt r) (fact 𝓤 (r ≡ answer-of-list m p n))
   answer-of m p n r = exE 𝓤 _ (λ ws. snd∗ 𝓤 (sem 𝓤 H A (lasts answer.ended tt (m, (p, (n, tt))) ws)) (fact 𝓤 (r ≡ answer-of-list m p n)))
 
-module _ {M : Type 1} (𝓤 : URA M) (H : Heap 𝓤) (A : Atoms 𝓤) (W : Given 𝓤 H A) (mem : Memory → SProp 𝓤) (run : Routine → Fun 𝓤) (κ : Lft) (q : Share) (b o : ℕ) (γ : GName) (ys : List Request) (p : ℕ) (gn : Room R.the-row (length ys)) (gp : p < 2 ^ 8) where
-  abbrev x : RefT (List Request) × (ℕ × Unit {0})
+module _ {M : Type 1} (𝓤 : URA M) (H : Heap 𝓤) (A : Atoms 𝓤) (W : Given 𝓤 H A) (mem : Memory → SProp 𝓤) (run : Routine → Fun 𝓤) (κ : Lft) (q : Share) (b o : ℕ) (γ : GName) (ys : List LentRequest) (p : ℕ) (gn : Room R.the-row (length ys)) (gp : p < 2 ^ 8) where
+  abbrev x : RefT (List LentRequest) × (ℕ × Unit {0})
   x = (record { ptr = (b, o); name = γ; now = ys }, (p, tt))
 
   abbrev at : List Val × (List Val × Unit {0})
@@ -129,10 +128,10 @@ module _ {M : Type 1} (𝓤 : URA M) (H : Heap 𝓤) (A : Atoms 𝓤) (W : Given
       nothing ! $ move ! (1 ∷ 0 ∷ []) $ join ! $ nothing ! $ move ! (3 ∷ 0 ∷ []) $ fjoin ! $ move ! (2 ∷ 0 ∷ []) $ fjoin ! $ move ! (1 ∷ 0 ∷ []) $ frame ! $ frame ! $ done !
 
   -- what each callee's triple binds outside, and that it can be had: all of it is plain
-  abbrev to-added : ℕ → Request → Added 𝓤 H A mem run .Ghost
+  abbrev to-added : ℕ → LentRequest → Added 𝓤 H A mem run .Ghost
   to-added n d = ((tt, tt, tt, (n, (d, (p, tt))), (vint w32 n ∷ [], (R′.lowered d ∷ [], (vint w8 p ∷ [], tt)))), tt)
 
-  goes-added : (n : ℕ) (d : Request) → n < 2 ^ 32 → Is R.the-row d (R′.lowered d ∷ []) → ent 𝓤 (emp 𝓤) (Added 𝓤 H A mem run .pre (to-added n d))
+  goes-added : (n : ℕ) (d : LentRequest) → n < 2 ^ 32 → Is R.the-row d (R′.lowered d ∷ []) → ent 𝓤 (emp 𝓤) (Added 𝓤 H A mem run .pre (to-added n d))
   goes-added n d fits is =
       qed W [] ∵ nothing ! $ owned ! u8 (Is u8) (uint-makes 𝓤 H A W w8) p _ (refl, gp) $ fjoin ! $ owned ! R.the-row (Is R.the-row) (LL.makes R.the-type R′.the-plain 𝓤 H A) d _ is $ fjoin ! $
       owned ! u32 (Is u32) (uint-makes 𝓤 H A W w32) n _ (refl, fits) $ fjoin ! $ nothing ! $ join ! $ frame ! $ done !
@@ -158,6 +157,9 @@ module _ {M : Type 1} (𝓤 : URA M) (H : Heap 𝓤) (A : Atoms 𝓤) (W : Given
   Nearer-wf : WellFounded Nearer
   Nearer-wf = InvImage·wf (λ (s : State). length ys - s .0) (Nat·lt-wfRel .wf)
 
+  at-start : (k n : ℕ) → k ≡ 0 → n ≡ 0 → Known k n
+  at-start k n e f = rw (e, f) (zero-le, lit< tt, refl)
+
   step-known : (k n r : ℕ) → k < length ys → r < 2 ^ 32 → r ≡ one-more p n (getD ys k none) → Known k n → Known (k + 1) r
   unfolding counted
   step-known k n r less fits e f = (
@@ -165,13 +167,13 @@ module _ {M : Type 1} (𝓤 : URA M) (H : Heap 𝓤) (A : Atoms 𝓤) (W : Given
     fits,
     ap (λ (m : ℕ). counted p m (drop-list (k + 1) ys)) e
         ∙ ap (λ (j : ℕ). counted p (one-more p n (getD ys k none)) (drop-list j ys)) (add-one k)
-        ∙ sym (ap (λ (l : List Request). counted p n l) (drop-cons ys k none less))
+        ∙ sym (ap (λ (l : List LentRequest). counted p n l) (drop-cons ys k none less))
         ∙ f .2,
   )
 
   last-known : (k n : ℕ) (r : Reply) → length ys ≤ k → Known k n → r ≡ answer-of-list (length ys) p n → r ≡ waiting-in p ys
   unfolding waiting-in counted
-  last-known k n r over f e = e ∙ ap (λ (m : ℕ). answer-of-list (length ys) p m) (sym (ap (λ (l : List Request). counted p n l) (drop-of-length-le ys over)) ∙ f .2)
+  last-known k n r over f e = e ∙ ap (λ (m : ℕ). answer-of-list (length ys) p m) (sym (ap (λ (l : List LentRequest). counted p n l) (drop-of-length-le ys over)) ∙ f .2)
 
   scaled : (k : ℕ) → k < length ys → k * 32 < 2 ^ 64
   scaled k less = omega (arith, gn .1)
@@ -225,7 +227,7 @@ module _ {M : Type 1} (𝓤 : URA M) (H : Heap 𝓤) (A : Atoms 𝓤) (W : Given
         assigns ! (bin ! (load ! (from ! (stop !)) (look ! 16 refl)) (lit ! tt) (record { fits = scaled (s .0) less })) (from ! (stop !)) (store ! 14 refl (tt, record { fits = scaled (s .0) less })) $
         assigns ! (bin ! (load ! (from ! (fld ! refl (stop !))) (look-in ! 22 (sub ! 0 refl (whole !)))) (load ! (from ! (stop !)) (look ! 14 refl)) tt) (from ! (stop !)) (init ! 10 refl (tt, tt)) $
         rewrite ! 10 (λ (z : ℕ). ‵ (fat fullShare tyPtr l₇ 0 (vptr b z))) (sym (place-is 32 o (s .0))) refl $
-        -- the request of place k is copied out
+        -- place k is copied out
         looks-slice ! tt R.the-row (Is R.the-row) (shows 𝓤 H A R.the-row) (LL.vals R.the-type R′.the-laws) (LL.tells R.the-type R′.the-laws) (LL.copy R.the-type R′.the-copy 𝓤 H A W) ys b o (λ q′.
         elem-out ! R.the-row (Is R.the-row) (shows 𝓤 H A R.the-row) (LL.vals R.the-type R′.the-laws) (LL.tells R.the-type R′.the-laws) q′ ys (s .0) none b o less (λ g.
         assigns ! (of-opd ! (load ! (from ! (hop ! (look ! 13 refl) (stop !))) (look-raw ! 0 refl))) (from ! (stop !)) (init ! 11 refl (LL.lawful R.the-type R′.the-laws 𝓤 H A W .typed (getD ys (s .0) none) _ g .0)) $
@@ -255,9 +257,9 @@ module _ {M : Type 1} (𝓤 : URA M) (H : Heap 𝓤) (A : Atoms 𝓤) (W : Given
         move ! (13 ∷ 14 ∷ []) $ free1 ! $ move ! (11 ∷ 12 ∷ []) $ free1 ! $ move ! (9 ∷ 10 ∷ []) $ free1 ! $ move ! (7 ∷ 8 ∷ []) $ free1 ! $ free0 ! $
         move ! (4 ∷ 1 ∷ []) $ fjoin ! $ move ! (4 ∷ 0 ∷ []) $ fjoin ! $ move ! (4 ∷ []) $ fsplit ! $ keep ! (4 ∷ 2 ∷ 0 ∷ 3 ∷ []) $ by ! (exits r w (last-known (s .0) (s .1 .0) r over (s .1 .1) e)))))))
 
-    -- the loop from the start, and all that follows it
-    looped : Sq W (At (0, (0, (zero-le, lit< tt, refl)))) (runs C Λ En mir′.t-3 (atRet En Post))
-    looped = first ! $ blocks ! $ loops ! 𝓣 Nearer Nearer-wf At turns (0, (0, (zero-le, lit< tt, refl)))
+    -- the loop from a place and a count on, of which this is known, and all that follows it
+    looped : {k n : ℕ} (f : Known k n) → Sq W (At (k, (n, f))) (runs C Λ En mir′.t-3 (atRet En Post))
+    looped {k} {n} f = first ! $ blocks ! $ loops ! 𝓣 Nearer Nearer-wf At turns (k, (n, f))
 
     -- the two counters are set, and what the parameters own is taken apart
     abbrev Begun : List (Item 𝓤)
@@ -281,7 +283,7 @@ module _ {M : Type 1} (𝓤 : URA M) (H : Heap 𝓤) (A : Atoms 𝓤) (W : Given
         assigns ! (of-opd ! (lit ! tt)) (from ! (stop !)) (init ! 12 refl (tt, record { fits = lit< tt })) $
         assigns ! (of-opd ! (lit ! tt)) (from ! (stop !)) (init ! 10 refl (tt, record { fits = lit< tt })) $
         move ! (21 ∷ []) $ fsplit ! $ fsplit ! $ move ! (1 ∷ []) $ fsplit ! $ move ! (24 ∷ []) $ split ! $
-        keep ! (3 ∷ 0 ∷ 1 ∷ 2 ∷ 4 ∷ 5 ∷ 6 ∷ 7 ∷ 8 ∷ 9 ∷ 10 ∷ 11 ∷ 12 ∷ 13 ∷ 14 ∷ 15 ∷ 16 ∷ 17 ∷ 18 ∷ 19 ∷ 20 ∷ 21 ∷ 22 ∷ 23 ∷ 24 ∷ 25 ∷ []) $ looped
+        keep ! (3 ∷ 0 ∷ 1 ∷ 2 ∷ 4 ∷ 5 ∷ 6 ∷ 7 ∷ 8 ∷ 9 ∷ 10 ∷ 11 ∷ 12 ∷ 13 ∷ 14 ∷ 15 ∷ 16 ∷ 17 ∷ 18 ∷ 19 ∷ 20 ∷ 21 ∷ 22 ∷ 23 ∷ 24 ∷ 25 ∷ []) $ looped (at-start _ _ (omega arith) (omega arith))
 
   walk : (𝓣 : Tables 𝓤 H) → Triple 𝓤 (𝓣 .C #added) (Added 𝓤 H A mem run) → Triple 𝓤 (𝓣 .C #answer) (Answer 𝓤 H A mem run)
       → ent 𝓤 (onEntry 𝓤 H A waiting.signature (κ, tt) (q, tt) x at) (WpFn 𝓤 H (𝓣 .C) (𝓣 .Λ) code.function (sliceVal (b, o) (length ys) ∷ vint w8 p ∷ []) Post)

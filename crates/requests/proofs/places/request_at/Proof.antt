@@ -14,17 +14,17 @@ mul-t4 c = search needs
 shared-slice-read-t6 : tie.Need-shared-slice-read-t6
 shared-slice-read-t6 c = search needs
 
-add-octal : tie.Need-add-octal
-add-octal c = search needs
+add-player-of : tie.Need-add-player-of
+add-player-of c = search needs
 
-mul-octal : tie.Need-mul-octal
-mul-octal c = search needs
+mul-player-of : tie.Need-mul-player-of
+mul-player-of c = search needs
 
-shared-slice-read-octal : tie.Need-shared-slice-read-octal
-shared-slice-read-octal c = search needs
+shared-slice-read-player-of : tie.Need-shared-slice-read-player-of
+shared-slice-read-player-of c = search needs
 
-octal-requires : tie.Need-octal-requires
-octal-requires c κs = search needs
+player-of-requires : tie.Need-player-of-requires
+player-of-requires c κs = search needs
 
 add-byte : tie.Need-add-byte
 add-byte c = search needs
@@ -137,7 +137,7 @@ shared-slice-read-t57 c = search needs
 returns : tie.Need-returns
 returns c =
     let a = c .before .before .before .before .before .before .before .before .before .before .before .before .before .before .before .before .before .before .before .before .args in
-    read-place (a .region .now) (a .k) _ _ _ _ _ _ _ (c .before .before .before .before .before .before .before .before .before .before .before .before .before .before .before .before .octal .ensures) (c .before .before .before .before .before .before .before .before .before .before .before .before .before .before .byte .ensures) (c .before .before .before .before .before .before .before .before .before .before .before .before .byte2 .ensures) (c .before .before .before .before .before .before .before .before .before .before .half .ensures) (c .before .before .before .before .before .before .flag .ensures) (c .before .before .before .before .flag2 .ensures) (c .before .before .flag3 .ensures)
+    read-place (a .region .now) (a .k) _ _ _ _ _ _ _ (c .before .before .before .before .before .before .before .before .before .before .before .before .before .before .before .before .player-of .ensures) (c .before .before .before .before .before .before .before .before .before .before .before .before .before .before .byte .ensures) (c .before .before .before .before .before .before .before .before .before .before .before .before .byte2 .ensures) (c .before .before .before .before .before .before .before .before .before .before .half .ensures) (c .before .before .before .before .before .before .flag .ensures) (c .before .before .before .before .flag2 .ensures) (c .before .before .flag3 .ensures)
 
 pub request-at-spec : {M : Type 1} → statement M
 request-at-spec =
@@ -146,10 +146,10 @@ request-at-spec =
     mul-b
     mul-t4
     shared-slice-read-t6
-    add-octal
-    mul-octal
-    shared-slice-read-octal
-    octal-requires
+    add-player-of
+    mul-player-of
+    shared-slice-read-player-of
+    player-of-requires
     add-byte
     mul-byte
     shared-slice-read-byte

@@ -1,0 +1,47 @@
+-- `requests::tests::is_crossed` meets its contract: a case for each thing that is looked for.
+-- Assumes nothing.
+use mathlib.Core.Path.{sym, ap, _∙_}
+use Rattle.requests.specs.declared.Look.{Look}
+use Rattle.requests.specs.Calls.{crossed}
+use borrow.Author.Needs.{needs}
+use Rattle.requests.proofs.tests.is_crossed.Statement.{statement}
+use Rattle.requests.proofs.tests.is_crossed.Tie as tie
+
+enum-known-look : tie.Need-enum-known-look
+enum-known-look c = search needs
+
+enum-known-look-2 : tie.Need-enum-known-look-2
+enum-known-look-2 c = search needs
+
+enum-known-look-3 : tie.Need-enum-known-look-3
+enum-known-look-3 c = search needs
+
+is-using-requires : tie.Need-is-using-requires
+is-using-requires c κs = search needs
+
+returns : tie.Need-returns
+returns c =
+    let b = c .before in
+    ap (λ (x : Look). crossed x (b .before .before .args .r)) (sym (b .look .given .1))
+
+returns-2 : tie.Need-returns-2
+returns-2 c =
+    let b = c .before in
+    ap (λ (x : Look). crossed x (b .before .before .args .r)) (sym (b .look2 .given .1))
+
+returns-3 : tie.Need-returns-3
+returns-3 c =
+    let b = c .before .before in
+    c .is-using .ensures ∙ ap (λ (x : Look). crossed x (b .before .before .args .r)) (sym (b .look3 .given .1))
+
+pub is-crossed-spec : {M : Type 1} → statement M
+is-crossed-spec =
+    tie.close
+    (tie.spec
+    enum-known-look
+    enum-known-look-2
+    enum-known-look-3
+    is-using-requires
+    returns
+    returns-2
+    returns-3)

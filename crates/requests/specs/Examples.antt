@@ -1,0 +1,63 @@
+-- Worked cases of the lent list, and of a search.
+-- Assumes nothing.
+use mathlib.Core.Path.{_≡_, refl}
+use mathlib.Core.Bool.{Bool, true, false}
+use mathlib.Core.List.{List, [], _∷_, _++_, map}
+use Prim.Native.Nat.{ℕ}
+use lib.ListN.{replicate}
+use Rattle.store.specs.Calls.{reply}
+use Rattle.requests.specs.declared.Request.{Request}
+use Rattle.requests.specs.declared.LentRequest.{LentRequest}
+use Rattle.requests.specs.declared.Fit.the-variants.{Undelivered, Answerable, Pending, Abandoned}
+use Rattle.requests.specs.declared.Look.the-variants.{Writing, Crossing}
+use Rattle.requests.specs.Region.{requestOf, requestsFrom, requestsOf, placed, regionOf}
+use Rattle.requests.specs.Answers.{gives, refused}
+use Rattle.requests.specs.Calls.{found-numbers, overlapped-from, pass, passed}
+use Rattle.requests.specs.Lent.{request, counts, one-more, counted, answer, waiting}
+
+-- a read of entry 45, with these marks
+abbrev place : ℕ → ℕ → ℕ → ℕ → ℕ → LentRequest
+place serial player overlapped delivered abandoned =
+    record { serial = serial; player = player; kind = 4; low = 45; high = 0; value = 0; guard = 0; overlapped = overlapped; delivered = delivered; abandoned = abandoned; first = 0; second = 0 }
+
+abbrev marks : Request → List Bool
+marks r = r .overlapped ∷ r .delivered ∷ r .abandoned ∷ []
+
+-- 1, 2, 3 and 255 are marks that stand
+pub marks-case :
+    map (λ r. marks (request r)) (place 1 3 0 0 0 ∷ place 1 3 1 0 2 ∷ place 1 3 2 3 255 ∷ [])
+    ≡ (false ∷ false ∷ false ∷ []) ∷ (true ∷ false ∷ true ∷ []) ∷ (true ∷ true ∷ true ∷ []) ∷ []
+marks-case = refl
+
+-- of seven requests and 57 places that are not used, two are pending ones of player 3: those with an abandoned mark of 1, 2, 3 or 255 are not
+abbrev some-marked : List LentRequest
+some-marked =
+    (place 1 3 0 0 0 ∷ place 2 3 0 0 1 ∷ place 4 3 255 3 0 ∷ place 5 3 0 0 2 ∷ place 6 3 0 2 3 ∷ place 7 2 0 0 0 ∷ place 9 3 1 1 255 ∷ []) ++ replicate 57 (place 0 0 0 0 0)
+
+pub waiting-case :
+    map (λ p. waiting p some-marked) (3 ∷ 2 ∷ 0 ∷ 8 ∷ []) ≡ reply 0 2 0 ∷ reply 0 1 0 ∷ reply 0 0 0 ∷ reply 28 0 0 ∷ []
+unfolding waiting answer counted one-more counts
+waiting-case = refl
+
+-- in a region with two requests: the second, which is delivered and pending, is found at place 1 where that fits, and others are not
+abbrev two-requests : List ℕ
+two-requests = regionOf (request (place 1 3 0 0 0) ∷ request (place 4 2 0 1 0) ∷ [])
+
+pub found-case :
+    map (λ n. found-numbers Answerable n two-requests) (4 ∷ 1 ∷ 2 ∷ 0 ∷ []) ≡ gives (1 ∷ 4 ∷ 2 ∷ 4 ∷ 45 ∷ 0 ∷ 0 ∷ 0 ∷ 0 ∷ 1 ∷ 0 ∷ 0 ∷ 0 ∷ []) ∷ refused 32 ∷ refused 32 ∷ refused 32 ∷ []
+unfolding requestOf requestsFrom requestsOf placed
+found-case = refl
+
+-- which of them each step that names a request fits, 6 to 9
+pub fits-case :
+    map (λ f. map (λ n. found-numbers f n two-requests .code) (1 ∷ 4 ∷ [])) (Undelivered ∷ Answerable ∷ Pending ∷ Abandoned ∷ [])
+    ≡ (0 ∷ 32 ∷ []) ∷ (32 ∷ 0 ∷ []) ∷ (0 ∷ 0 ∷ []) ∷ (32 ∷ 32 ∷ []) ∷ []
+unfolding requestOf requestsFrom requestsOf placed
+fits-case = refl
+
+-- a read of entry 45 by player 3 is not looked for, and only a write there marks it
+pub crossed-case :
+    map (λ x. passed x (regionOf (request (place 1 3 0 0 0) ∷ []))) (Writing 3 45 ∷ Crossing 3 45 ∷ Crossing 3 44 ∷ [])
+    ≡ map (λ m. pass (record { used = 1; hit = false }) (regionOf (request (place 1 3 m 0 0) ∷ []))) (0 ∷ 1 ∷ 0 ∷ [])
+unfolding requestOf requestsFrom requestsOf placed passed overlapped-from
+crossed-case = refl
