@@ -5,5 +5,6 @@ pub mod FreshLaws
 pub mod CheckLaws
 pub mod StepCases
 pub mod Kept
+pub mod Refusals
 pub mod CallLaws
 pub mod PlayedLaws

@@ -7,9 +7,10 @@ mod rules;
 use store::Range;
 use store::Reply;
 use store::codes;
+use store::done;
+use store::refuse;
 ghost use mathlib.Core.Path.{_≡_};
 ghost use Rattle.players.specs.Calls.{left, whole, checked, made-fresh};
-ghost use Rattle.players.specs.Replies.{refusal};
 
 // A step: its kind, with that kind's fields. The number of each kind, and the document's word where it has one of its own, stand beside it.
 pub enum Step {
@@ -26,13 +27,6 @@ pub enum Step {
     Merge { entry: u8 }, // 11
     RestartTablet { entry: u8 }, // 12
     RestartPlayer { player: u8 }, // 13
-}
-
-// A reply that is a code alone: a refusal, or 0 for done.
-fn refuse(code: u32) -> Reply
-    ensures { λ r. ⌜ r ≡ refusal code ⌝ }
-{
-    Reply { code, a: 0, b: 0 }
 }
 
 // Whether both tables have their lengths.
@@ -70,5 +64,5 @@ pub fn check(store: &[u32], players: &[u32]) -> Reply
     if !rules::players_hold(players) {
         return refuse(codes::BROKEN_RULE);
     }
-    refuse(codes::DONE)
+    done()
 }

@@ -48,13 +48,13 @@ returns-3 c =
     let a = c .before .before .before .before .before .before .before .before .before .before .before .args in
     c .refuse3 .ensures ∙ check-players (a .store .now) (a .players .now) (sym (c .before .before .before .before .before .before .before .before .whole .ensures) ∙ not-false _ (c .before .before .before .before .before .before .before .if1 .left)) _ (c .before .before .before .before .before .check-at .ensures) (c .before .before .before .if2 .left) (sym (c .before .before .players-hold .ensures) ∙ not-true _ (c .before .if3 .taken))
 
-refuse-requires-4 : tie.Need-refuse-requires-4
-refuse-requires-4 c κs = search needs
+done-requires : tie.Need-done-requires
+done-requires c κs = search needs
 
 returns-4 : tie.Need-returns-4
 returns-4 c =
     let a = c .before .before .before .before .before .before .before .before .before .before .before .args in
-    c .refuse4 .ensures ∙ check-good (a .store .now) (a .players .now) (sym (c .before .before .before .before .before .before .before .before .whole .ensures) ∙ not-false _ (c .before .before .before .before .before .before .before .if1 .left)) _ (c .before .before .before .before .before .check-at .ensures) (c .before .before .before .if2 .left) (sym (c .before .before .players-hold .ensures) ∙ not-false _ (c .before .if3 .left))
+    c .done .ensures ∙ check-good (a .store .now) (a .players .now) (sym (c .before .before .before .before .before .before .before .before .whole .ensures) ∙ not-false _ (c .before .before .before .before .before .before .before .if1 .left)) _ (c .before .before .before .before .before .check-at .ensures) (c .before .before .before .if2 .left) (sym (c .before .before .players-hold .ensures) ∙ not-false _ (c .before .if3 .left))
 
 pub check-spec : {M : Type 1} → statement M
 check-spec =
@@ -70,5 +70,5 @@ check-spec =
     players-hold-requires
     refuse-requires-3
     returns-3
-    refuse-requires-4
+    done-requires
     returns-4)
