@@ -8,12 +8,13 @@ use lib.Dec.{lit≤}
 use lib.ListN.{length, getD, take, drop, length-append}
 use lib.Seq.{take-add, length-take-le}
 use borrow.Author.Tests.{eq-eqb}
+use Rattle.requests.specs.Answers.{Numbers, gives, refused}
 use Rattle.players.specs.declared.Step.{Step}
 use Rattle.players.proofs.Kept.{Fits}
 use Rattle.session.specs.Layout.{widths, record-length, fields-length, fields, field-bytes, map-of}
 use Rattle.session.specs.declared.Decoded.{Decoded}
 use Rattle.session.specs.declared.Decoded.the-variants.{Record, Refused}
-use Rattle.session.specs.Records.{kind-and-fields, kind, step-of, map-at, kind-at, fields-at, decode, Numbers, taken, refused, Decodes, encode, Bytes}
+use Rattle.session.specs.Records.{kind-and-fields, kind, step-of, map-at, kind-at, fields-at, decode, Decodes, encode, Bytes}
 use Rattle.session.proofs.Tested.{Accepted, accepted, Outcome, refuses, accepts, outcome}
 use Rattle.session.proofs.FieldLaws.{length-fields, fields-back, field-bytes-back}
 use Rattle.session.proofs.StepLaws.{known, kind-map, Reads, reads, fits-read}
@@ -66,7 +67,7 @@ module _ (s : List ℕ) (a : Accepted s) where
         answer = rw (a .takes Decoded Refused _, e, en);
         numbered =
             rw (a .takes Numbers refused _, en)
-            (ap (taken (record-length (map-at s))) (ap kind-and-fields e ∙ rw (a .map) (read .whole)));
+            (ap (λ (vs : List ℕ). gives (record-length (map-at s) ∷ vs)) (ap kind-and-fields e ∙ rw (a .map) (read .whole)));
       }
 
 -- what the decoder accepted

@@ -11,7 +11,7 @@ use lib.ListN.{length}
 use Rattle.players.specs.declared.Step.{Step}
 use Rattle.players.specs.declared.Step.the-variants.{Assign, Release, RequestGuard, Read, Write, Deliver, Respond, Abandon, Lose, Split, Merge, RestartTablet, RestartPlayer}
 use Rattle.players.proofs.Kept.{Fits}
-use Rattle.session.specs.Layout.{widths, fields, map-of}
+use Rattle.session.specs.Layout.{widths, fields, last-kind, map-of}
 use Rattle.session.specs.Records.{kind-and-fields, kind, step-of, kind-at, Bytes}
 use Rattle.session.proofs.FieldLaws.{count}
 
@@ -19,13 +19,13 @@ use Rattle.session.proofs.FieldLaws.{count}
 
 pub record Known (x : Step) : Type 0 where
   pub from : 1 ≤ kind x
-  pub to : kind x ≤ 13
+  pub to : kind x ≤ last-kind
   pub fields : length (kind-and-fields x) ≡ count widths (map-of (kind x))
   pub same : step-of (kind x) (kind-and-fields x) ≡ x
 
-known-by : (x : Step) → T (leb 1 (kind x)) → T (leb (kind x) 13) → length (kind-and-fields x) ≡ count widths (map-of (kind x))
+known-by : (x : Step) → T (leb 1 (kind x)) → T (leb (kind x) last-kind) → length (kind-and-fields x) ≡ count widths (map-of (kind x))
     → step-of (kind x) (kind-and-fields x) ≡ x → Known x
-known-by x f t n e = record { from = leb→le 1 (kind x) f; to = leb→le (kind x) 13 t; fields = n; same = e }
+known-by x f t n e = record { from = leb→le 1 (kind x) f; to = leb→le (kind x) last-kind t; fields = n; same = e }
 
 pub known : (x : Step) → Known x
 unfolding map-of step-of
@@ -57,7 +57,7 @@ at {P} {i} (p & ps) zero h = subst (λ (j : ℕ). P j) (sym (add-zero i)) p
 at {P} {i} (p & ps) (suc k) h = subst (λ (j : ℕ). P j) (suc-add i k ∙ sym (add-suc i k)) (at ps k (le-of-suc-le-suc h))
 
 -- a fact of each kind
-pub each-kind : (P : ℕ → Type 0) → Each P 1 13 → (k : ℕ) → 1 ≤ k → k ≤ 13 → P k
+pub each-kind : (P : ℕ → Type 0) → Each P 1 last-kind → (k : ℕ) → 1 ≤ k → k ≤ last-kind → P k
 each-kind P ps zero f t = absurd (not-suc-le-zero f)
 each-kind P ps (suc k) f t = subst P (add-comm 1 k ∙ add-one k) (at ps k t)
 
@@ -73,7 +73,7 @@ pub record Map (m : ℕ) : Type 0 where
 good : (m : ℕ) → T (leb (suc m) 64) → m % 2 ≡ 1 → Map m
 good m t e = record { low = leb→le (suc m) 64 t; odd = e }
 
-pub kind-map : (k : ℕ) → 1 ≤ k → k ≤ 13 → Map (map-of k)
+pub kind-map : (k : ℕ) → 1 ≤ k → k ≤ last-kind → Map (map-of k)
 unfolding map-of
 kind-map =
     each-kind (λ (k : ℕ). Map (map-of k))
@@ -104,7 +104,7 @@ reads-as : (s : List ℕ) (k : ℕ) → kind (step-of k (fields widths (map-of k
     → (kind-at s ≡ k → kind-and-fields (step-of k (fields widths (map-of k) s 1)) ≡ fields widths (map-of k) s 1) → Read-as s k
 reads-as s k h g e = record { kinds = h; whole = g e }
 
-pub reads : (s : List ℕ) (k : ℕ) → 1 ≤ k → k ≤ 13 → Read-as s k
+pub reads : (s : List ℕ) (k : ℕ) → 1 ≤ k → k ≤ last-kind → Read-as s k
 unfolding fields map-of step-of
 reads s =
     each-kind (Read-as s)
@@ -124,7 +124,7 @@ reads s =
     & none)
 
 -- the entries of a step that was read are bytes
-pub fits-read : (s : List ℕ) → Bytes s → (k : ℕ) → 1 ≤ k → k ≤ 13 → Fits (step-of k (fields widths (map-of k) s 1))
+pub fits-read : (s : List ℕ) → Bytes s → (k : ℕ) → 1 ≤ k → k ≤ last-kind → Fits (step-of k (fields widths (map-of k) s 1))
 unfolding Bytes fields map-of step-of
 fits-read s b =
     each-kind (λ (k : ℕ). Fits (step-of k (fields widths (map-of k) s 1)))

@@ -7,32 +7,33 @@ use Prim.Native.Nat.{ℕ, _%_, _≤_, _<_}
 use lib.ListN.{length}
 use lib.Dec.{ltb, leb, eqb}
 use borrow.Author.Tests.{ltb-true, ltb-false, leb-true, leb-false, eqb-true, eqb-false, lt-ltb, le-ltb, le-leb, lt-leb, eq-eqb, ne-eqb}
-use Rattle.session.specs.Layout.{stands, record-length, map-of}
+use Rattle.requests.specs.Answers.{Numbers, refused}
+use Rattle.session.specs.Layout.{stands, record-length, last-kind, map-of}
 use Rattle.session.specs.declared.Decoded.{Decoded}
 use Rattle.session.specs.declared.Decoded.the-variants.{Refused}
-use Rattle.session.specs.Records.{map-at, kind-at, tested, Numbers, refused, Decodes}
+use Rattle.session.specs.Records.{cut-short, unknown-field, unknown-kind, wrong-fields, map-at, kind-at, tested, Decodes}
 
 -- whatever is made of it, the tests come to the refusal n
 abbrev pub Refuses : List ℕ → ℕ → Type 1
 Refuses s n = (A : Type 0) (f : ℕ → A) (x : A) → tested s f x ≡ f n
 
 module _ (s : List ℕ) where
-  pub no-byte : length s ≡ 0 → Refuses s 24
+  pub no-byte : length s ≡ 0 → Refuses s cut-short
   unfolding tested
   no-byte h A f x = simp (eq-eqb (length s) 0 h)
 
   module _ (some : length s ≡ 0 → ⊥) where
-    pub high-bit : 64 ≤ map-at s → Refuses s 25
+    pub high-bit : 64 ≤ map-at s → Refuses s unknown-field
     unfolding tested
     high-bit h A f x = simp (ne-eqb (length s) 0 some, le-leb 64 (map-at s) h)
 
     module _ (low : map-at s < 64) where
-      pub cut : length s < record-length (map-at s) → Refuses s 24
+      pub cut : length s < record-length (map-at s) → Refuses s cut-short
       unfolding tested
       cut h A f x = simp (ne-eqb (length s) 0 some, lt-leb 64 (map-at s) low, lt-ltb (length s) (record-length (map-at s)) h)
 
       module _ (long : record-length (map-at s) ≤ length s) where
-        pub no-kind : (map-at s % 2 ≡ 1 → ⊥) → Refuses s 27
+        pub no-kind : (map-at s % 2 ≡ 1 → ⊥) → Refuses s wrong-fields
         unfolding tested
         no-kind h A f x =
             simp (ne-eqb (length s) 0 some, lt-leb 64 (map-at s) low, le-ltb (length s) (record-length (map-at s)) long, ne-eqb (map-at s % 2) 1 h)
@@ -40,36 +41,36 @@ module _ (s : List ℕ) where
         module _ (odd : map-at s % 2 ≡ 1) where
           -- past the tests of the map
           on-kind : {A : Type 0} (f : ℕ → A) (x : A)
-              → tested s f x ≡ cond (ltb (kind-at s) 1 || ltb 13 (kind-at s)) (f 26) (cond (eqb (map-at s) (map-of (kind-at s))) x (f 27))
+              → tested s f x ≡ cond (ltb (kind-at s) 1 || ltb last-kind (kind-at s)) (f unknown-kind) (cond (eqb (map-at s) (map-of (kind-at s))) x (f wrong-fields))
           unfolding tested
           on-kind f x =
               simp (ne-eqb (length s) 0 some, lt-leb 64 (map-at s) low, le-ltb (length s) (record-length (map-at s)) long, eq-eqb (map-at s % 2) 1 odd)
 
-          pub kind-zero : kind-at s < 1 → Refuses s 26
+          pub kind-zero : kind-at s < 1 → Refuses s unknown-kind
           kind-zero h A f x = rw (on-kind f x, lt-ltb (kind-at s) 1 h)
 
           module _ (from : 1 ≤ kind-at s) where
-            pub kind-above : 13 < kind-at s → Refuses s 26
-            kind-above h A f x = rw (on-kind f x, le-ltb (kind-at s) 1 from, lt-ltb 13 (kind-at s) h)
+            pub kind-above : last-kind < kind-at s → Refuses s unknown-kind
+            kind-above h A f x = rw (on-kind f x, le-ltb (kind-at s) 1 from, lt-ltb last-kind (kind-at s) h)
 
-            module _ (to : kind-at s ≤ 13) where
-              pub other-map : (map-at s ≡ map-of (kind-at s) → ⊥) → Refuses s 27
+            module _ (to : kind-at s ≤ last-kind) where
+              pub other-map : (map-at s ≡ map-of (kind-at s) → ⊥) → Refuses s wrong-fields
               other-map h A f x =
-                  rw (on-kind f x, le-ltb (kind-at s) 1 from, le-ltb 13 (kind-at s) to, ne-eqb (map-at s) (map-of (kind-at s)) h)
+                  rw (on-kind f x, le-ltb (kind-at s) 1 from, le-ltb last-kind (kind-at s) to, ne-eqb (map-at s) (map-of (kind-at s)) h)
 
               pub passes : map-at s ≡ map-of (kind-at s) → (A : Type 0) (f : ℕ → A) (x : A) → tested s f x ≡ x
-              passes h A f x = rw (on-kind f x, le-ltb (kind-at s) 1 from, le-ltb 13 (kind-at s) to, eq-eqb (map-at s) (map-of (kind-at s)) h)
+              passes h A f x = rw (on-kind f x, le-ltb (kind-at s) 1 from, le-ltb last-kind (kind-at s) to, eq-eqb (map-at s) (map-of (kind-at s)) h)
 
 -- what is known of bytes that pass
 pub record Accepted (s : List ℕ) : Type 1 where
   pub some : length s ≡ 0 → ⊥
   pub long : record-length (map-at s) ≤ length s
   pub from : 1 ≤ kind-at s
-  pub to : kind-at s ≤ 13
+  pub to : kind-at s ≤ last-kind
   pub map : map-at s ≡ map-of (kind-at s)
   pub takes : (A : Type 0) (f : ℕ → A) (x : A) → tested s f x ≡ x
 
-pub accepted : (s : List ℕ) → (length s ≡ 0 → ⊥) → map-at s < 64 → record-length (map-at s) ≤ length s → map-at s % 2 ≡ 1 → 1 ≤ kind-at s → kind-at s ≤ 13
+pub accepted : (s : List ℕ) → (length s ≡ 0 → ⊥) → map-at s < 64 → record-length (map-at s) ≤ length s → map-at s % 2 ≡ 1 → 1 ≤ kind-at s → kind-at s ≤ last-kind
     → map-at s ≡ map-of (kind-at s) → Accepted s
 accepted s some low long odd from to e =
     record { some = some; long = long; from = from; to = to; map = e; takes = passes s some low long odd from to e }
@@ -82,32 +83,32 @@ pub data Outcome (s : List ℕ) : Type 1 where
 pub outcome : (s : List ℕ) → Outcome s
 outcome s = by-length (eqb (length s) 0) refl
   where
-    by-map : (length s ≡ 0 → ⊥) → map-at s < 64 → record-length (map-at s) ≤ length s → map-at s % 2 ≡ 1 → 1 ≤ kind-at s → kind-at s ≤ 13
+    by-map : (length s ≡ 0 → ⊥) → map-at s < 64 → record-length (map-at s) ≤ length s → map-at s % 2 ≡ 1 → 1 ≤ kind-at s → kind-at s ≤ last-kind
         → (b : Bool) → eqb (map-at s) (map-of (kind-at s)) ≡ b → Outcome s
     by-map some low long odd from to true e = accepts (accepted s some low long odd from to (eqb-true _ _ e))
-    by-map some low long odd from to false e = refuses 27 (other-map s some low long odd from to (eqb-false _ _ e))
+    by-map some low long odd from to false e = refuses wrong-fields (other-map s some low long odd from to (eqb-false _ _ e))
 
     by-kind : (length s ≡ 0 → ⊥) → map-at s < 64 → record-length (map-at s) ≤ length s → map-at s % 2 ≡ 1
-        → (a b : Bool) → ltb (kind-at s) 1 ≡ a → ltb 13 (kind-at s) ≡ b → Outcome s
-    by-kind some low long odd true b d e = refuses 26 (kind-zero s some low long odd (ltb-true _ _ d))
-    by-kind some low long odd false true d e = refuses 26 (kind-above s some low long odd (ltb-false _ _ d) (ltb-true _ _ e))
+        → (a b : Bool) → ltb (kind-at s) 1 ≡ a → ltb last-kind (kind-at s) ≡ b → Outcome s
+    by-kind some low long odd true b d e = refuses unknown-kind (kind-zero s some low long odd (ltb-true _ _ d))
+    by-kind some low long odd false true d e = refuses unknown-kind (kind-above s some low long odd (ltb-false _ _ d) (ltb-true _ _ e))
     by-kind some low long odd false false d e =
         by-map some low long odd (ltb-false _ _ d) (ltb-false _ _ e) (eqb (map-at s) (map-of (kind-at s))) refl
 
     by-bit : (length s ≡ 0 → ⊥) → map-at s < 64 → record-length (map-at s) ≤ length s → (b : Bool) → stands (map-at s) ≡ b → Outcome s
-    by-bit some low long true e = by-kind some low long (eqb-true _ _ e) (ltb (kind-at s) 1) (ltb 13 (kind-at s)) refl refl
-    by-bit some low long false e = refuses 27 (no-kind s some low long (eqb-false _ _ e))
+    by-bit some low long true e = by-kind some low long (eqb-true _ _ e) (ltb (kind-at s) 1) (ltb last-kind (kind-at s)) refl refl
+    by-bit some low long false e = refuses wrong-fields (no-kind s some low long (eqb-false _ _ e))
 
     by-size : (length s ≡ 0 → ⊥) → map-at s < 64 → (b : Bool) → ltb (length s) (record-length (map-at s)) ≡ b → Outcome s
-    by-size some low true e = refuses 24 (cut s some low (ltb-true _ _ e))
+    by-size some low true e = refuses cut-short (cut s some low (ltb-true _ _ e))
     by-size some low false e = by-bit some low (ltb-false _ _ e) (stands (map-at s)) refl
 
     by-bits : (length s ≡ 0 → ⊥) → (b : Bool) → leb 64 (map-at s) ≡ b → Outcome s
-    by-bits some true e = refuses 25 (high-bit s some (leb-true _ _ e))
+    by-bits some true e = refuses unknown-field (high-bit s some (leb-true _ _ e))
     by-bits some false e = by-size some (leb-false _ _ e) (ltb (length s) (record-length (map-at s))) refl
 
     by-length : (b : Bool) → eqb (length s) 0 ≡ b → Outcome s
-    by-length true e = refuses 24 (no-byte s (eqb-true _ _ e))
+    by-length true e = refuses cut-short (no-byte s (eqb-true _ _ e))
     by-length false e = by-bits (eqb-false _ _ e) (leb 64 (map-at s)) refl
 
 -- ---- what a decoder promises

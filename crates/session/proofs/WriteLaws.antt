@@ -10,10 +10,10 @@ use lib.ListN.{length, take, drop, getD, set, length-take}
 use lib.Seq.{drop-cons, set-at, length-take-le, take-suc, append-snoc}
 use borrow.Author.Tests.{lt-ltb, le-ltb}
 use Rattle.players.specs.Replies.{reply, refusal}
-use Rattle.session.specs.Written.{wrote, written}
+use Rattle.session.specs.Written.{wrote, buffer-short, written}
 
 -- the buffer is shorter
-pub too-short : (bytes out : List ℕ) → length out < length bytes → wrote (refusal 36) out ≡ written bytes out
+pub too-short : (bytes out : List ℕ) → length out < length bytes → wrote (refusal buffer-short) out ≡ written bytes out
 too-short bytes out h = simp (lt-ltb (length out) (length bytes) h)
 
 -- the bytes are put

@@ -55,6 +55,10 @@ field-bytes (w ∷ ws) m vs =
 
 -- ---- kinds
 
+-- "kind not 1 to 13"
+abbrev pub last-kind : ℕ
+last-kind = 13
+
 -- "Maps: 0F for kinds 1 and 3; 0D for 2; 07 for 4; 17 for 5; 21 for 6 to 9; 05 for 10 to 12; 03 for 13", from kind 0, which is none
 abbrev pub maps : List ℕ
 maps = 0x00 ∷ 0x0F ∷ 0x0D ∷ 0x0F ∷ 0x07 ∷ 0x17 ∷ 0x21 ∷ 0x21 ∷ 0x21 ∷ 0x21 ∷ 0x05 ∷ 0x05 ∷ 0x05 ∷ 0x03 ∷ []

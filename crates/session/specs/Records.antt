@@ -7,9 +7,10 @@ use Prim.Native.Nat.{ℕ, _<_}
 use lib.ListN.{length, getD}
 use lib.Dec.{ltb, leb, eqb}
 use Rattle.store.specs.declared.Range.{Range}
+use Rattle.requests.specs.Answers.{Numbers, gives, refused}
 use Rattle.players.specs.declared.Step.{Step}
 use Rattle.players.specs.declared.Step.the-variants.{Assign, Release, RequestGuard, Read, Write, Deliver, Respond, Abandon, Lose, Split, Merge, RestartTablet, RestartPlayer}
-use Rattle.session.specs.Layout.{widths, stands, record-length, fields, field-bytes, map-of}
+use Rattle.session.specs.Layout.{widths, stands, record-length, fields, field-bytes, last-kind, map-of}
 use Rattle.session.specs.declared.Decoded.{Decoded}
 use Rattle.session.specs.declared.Decoded.the-variants.{Record, Refused}
 
@@ -23,7 +24,7 @@ cut-short = 24
 abbrev pub unknown-field : ℕ
 unknown-field = 25
 
--- "kind not 1 to 13"
+-- "kind not 1 to 13": 0, or above the last
 abbrev pub unknown-kind : ℕ
 unknown-kind = 26
 
@@ -55,7 +56,7 @@ kind x = getD (kind-and-fields x) 0 0
 abbrev range : ℕ → ℕ → Range
 range lo hi = record { low = lo; high = hi }
 
--- the step of the kind k, 1 to 13, with this kind and these fields
+-- the step of the kind k, 1 to the last, with this kind and these fields
 unfoldable pub step-of : ℕ → List ℕ → Step
 step-of k vs =
     let a = getD vs 1 0 in
@@ -94,7 +95,7 @@ tested s refused taken =
     (cond (leb 64 (map-at s)) (refused unknown-field)
     (cond (ltb (length s) (record-length (map-at s))) (refused cut-short)
     (cond (stands (map-at s))
-    (cond (ltb (kind-at s) 1 || ltb 13 (kind-at s)) (refused unknown-kind)
+    (cond (ltb (kind-at s) 1 || ltb last-kind (kind-at s)) (refused unknown-kind)
     (cond (eqb (map-at s) (map-of (kind-at s))) taken (refused wrong-fields)))
     (refused wrong-fields))))
 
@@ -104,25 +105,14 @@ decode s = tested s Refused (Record (step-of (kind-at s) (fields-at s)) (record-
 
 -- ---- the document's numbers
 
--- 0 or the number of a refusal, and values
-pub record Numbers : Type 0 where
-  pub code : ℕ
-  pub values : List ℕ
-
-abbrev pub taken : ℕ → List ℕ → Numbers
-taken n vs = record { code = 0; values = n ∷ vs }
-
-abbrev pub refused : ℕ → Numbers
-refused n = record { code = n; values = [] }
-
--- those of each case of the decoder's answer: 0 with the record's length, the step's kind and its fields, or the refusal's number
+-- those of each case of the decoder's answer: 0 with the record's length, the step's kind and its fields, or the refusal's number and two zeros
 abbrev pub numbers : Decoded → Numbers
-numbers (Record x n) = taken n (kind-and-fields x)
+numbers (Record x n) = gives (n ∷ kind-and-fields x)
 numbers (Refused n) = refused n
 
 -- those of bytes, by the map and the widths alone
 abbrev pub record-numbers : List ℕ → Numbers
-record-numbers s = tested s refused (taken (record-length (map-at s)) (fields-at s))
+record-numbers s = tested s refused (gives (record-length (map-at s) ∷ fields-at s))
 
 -- what the decoder promises: the answer, and its numbers
 pub record Decodes (s : List ℕ) (d : Decoded) : Type 0 where

@@ -1,4 +1,5 @@
 // Writing to a lent buffer.
+use crate::codes;
 use store::Reply;
 ghost use mathlib.Core.Path.{_≡_};
 ghost use mathlib.Core.List.{_++_};
@@ -26,14 +27,14 @@ pub(crate) fn write(bytes: &[u8], out: &mut [u8]) -> Reply
     let n = bytes.len();
     if out.len() < n {
         return Reply {
-            code: 36,
+            code: codes::BUFFER_SHORT,
             a: 0,
             b: 0,
         };
     }
     put(bytes, out);
     Reply {
-        code: 0,
+        code: store::codes::DONE,
         a: n as u32,
         b: 0,
     }

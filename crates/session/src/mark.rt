@@ -5,14 +5,17 @@ ghost use mathlib.Core.Path.{_≡_};
 ghost use Rattle.session.specs.Mark.{mark, marked};
 ghost use Rattle.session.specs.Written.{wrote, written};
 
+// The length of the mark.
+pub const LENGTH: usize = 4;
+
 // The session's first four bytes.
-const MARK: [u8; 4] = *b"RSL1";
+const MARK: [u8; LENGTH] = *b"RSL1";
 
 // Whether the session begins with the mark.
 pub fn marked(session: &[u8]) -> bool
     ensures { λ r. ⌜ r ≡ marked (now (session .entry)) ⌝ }
 {
-    if session.len() < 4 {
+    if session.len() < LENGTH {
         return false;
     }
     let mark = MARK;

@@ -1,44 +1,69 @@
--- `session::records::encode` meets its contract: the first bytes of the array are the record's.
+-- `session::records::encode` meets its contract: the first bytes of the line are the record's.
 -- Assumes nothing.
 use mathlib.Core.Path.{_∙_, sym, ap}
 use mathlib.Core.List.{List}
-use Prim.Native.Nat.{ℕ}
+use Prim.Native.Nat.{ℕ, _≤_}
 use native.Mathlib.Omega.{arith}
 use lib.ListN.{length}
+use lib.Seq.{length-take-le}
 use denote.Ref.{now}
 use Rattle.session.specs.Written.{written}
-use Rattle.session.proofs.WriteLaws.{take-whole}
+use Rattle.session.proofs.WriteLaws.{take-few}
+use Rattle.session.proofs.EncodeLaws.{first-known, encoded}
 use borrow.Author.Needs.{needs}
 use Rattle.session.proofs.records.encode.Statement.{statement}
 use Rattle.session.proofs.records.encode.Tie as tie
 
-bytes-of-requires : tie.Need-bytes-of-requires
-bytes-of-requires c κs = search needs
+fields-of-requires : tie.Need-fields-of-requires
+fields-of-requires c κs = search needs
 
-array-share-prefix-bytes : tie.Need-array-share-prefix-bytes
-array-share-prefix-bytes c = let e = c .before .bytes-of .ensures in take-whole _ _ _ (e .1) (e .0)
+cast-map-of : tie.Need-cast-map-of
+cast-map-of c = search needs
+
+map-of-requires : tie.Need-map-of-requires
+map-of-requires c κs = first-known (c .before .before .before .args .step) _ (c .before .fields-of .ensures)
+
+slice-aggregate-put-record : tie.Need-slice-aggregate-put-record
+slice-aggregate-put-record c = search needs
+
+put-record-requires : tie.Need-put-record-requires
+put-record-requires c κs = search needs
+
+array-share-prefix-line : tie.Need-array-share-prefix-line
+array-share-prefix-line c = search needs
 
 slice-aggregate-write : tie.Need-slice-aggregate-write
-slice-aggregate-write c = let e = c .before .before .bytes-of .ensures in e .0 ∙ sym (ap length (e .1))
+slice-aggregate-write c =
+    let n = c .before .before .put-record .result in
+    let l = c .before .before .put-record .last .0 in
+    let h : n ≤ length l = search needs in
+    sym (length-take-le n l h)
 
 write-requires : tie.Need-write-requires
-write-requires c κs = let e = c .before .before .before .bytes-of .ensures in rw (e .1) (omega (arith, e .0, e .2))
+write-requires c κs = take-few (c .before .before .before .put-record .result) 255 _ (omega arith)
 
 same-length : tie.Need-same-length
 same-length c = search needs
 
 returns : tie.Need-returns
 returns c =
+    let line = c .before .before .before .before .before .before in
+    let map = line .before .before in
+    let fields = map .before .before in
+    let a = fields .before .before .args in
     c .before .before .write .ensures
-    ∙ ap (λ (l : List ℕ). written l (now (c .before .before .before .before .before .before .before .before .args .out)))
-    (c .before .before .before .before .before .before .bytes-of .ensures .1)
+    ∙ ap (λ (l : List ℕ). written l (now (a .out))) (line .put-record .ensures .stands ∙ encoded (a .step) _ _ (fields .fields-of .ensures) (map .map-of .ensures))
 
 pub encode-spec : {M : Type 1} → statement M
 encode-spec =
     tie.close
     (tie.spec
-    bytes-of-requires
-    array-share-prefix-bytes
+    fields-of-requires
+    cast-map-of
+    map-of-requires
+    slice-aggregate-put-record
+    put-record-requires
+    array-share-prefix-line
     slice-aggregate-write
     write-requires
     same-length

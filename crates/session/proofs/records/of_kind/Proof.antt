@@ -4,6 +4,7 @@ use mathlib.Core.Path.{_∙_, sym, ap}
 use native.Mathlib.Omega.{arith}
 use denote.Ref.{now}
 use Rattle.session.specs.Layout.{map-of}
+use Rattle.session.specs.Records.{unknown-kind, wrong-fields}
 use Rattle.session.proofs.Tested.{kind-zero, kind-above, other-map, accepted, refusal-decodes}
 use Rattle.session.proofs.RoundTrip.{record-decodes}
 use borrow.Author.Needs.{needs}
@@ -18,14 +19,14 @@ returns c =
     let k = c .before .before .before in
     let s = now (k .args .part) in
     let p = k .pre in
-    refusal-decodes s 26 (kind-zero s (λ e. omega arith) (omega arith) (omega arith) (p .5) (omega arith))
+    refusal-decodes s unknown-kind (kind-zero s (λ e. omega arith) (omega arith) (omega arith) (p .5) (omega arith))
 
 returns-2 : tie.Need-returns-2
 returns-2 c =
     let k = c .before .before .before .before in
     let s = now (k .args .part) in
     let p = k .pre in
-    refusal-decodes s 26 (kind-above s (λ e. omega arith) (omega arith) (omega arith) (p .5) (omega arith) (omega arith))
+    refusal-decodes s unknown-kind (kind-above s (λ e. omega arith) (omega arith) (omega arith) (p .5) (omega arith) (omega arith))
 
 cast-map-of : tie.Need-cast-map-of
 cast-map-of c = search needs
@@ -53,7 +54,7 @@ returns-4 c =
     let s = now (k .args .part) in
     let p = k .pre in
     let ek = c .before .before .before .before .byte-at .ensures in
-    refusal-decodes s 27
+    refusal-decodes s wrong-fields
     (other-map s (λ e. omega arith) (omega arith) (omega arith) (p .5) (omega arith) (omega arith)
     (λ e. c .if3 .left (p .1 ∙ e ∙ sym (ap map-of ek) ∙ sym (c .before .map-of .ensures))))
 

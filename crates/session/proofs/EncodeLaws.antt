@@ -1,0 +1,117 @@
+-- The bytes of a record: a number's put one by one, the fields of a map put one by one, and the record of a step by its six numbers.
+-- Assumes nothing.
+use mathlib.Core.Path.{_≡_, _∙_, refl, sym, ap}
+use mathlib.Core.Bool.{Bool, true, false, cond}
+use mathlib.Core.List.{List, [], _∷_, _++_, append-assoc, append-nil}
+use Prim.Native.Nat.{ℕ, zero, suc, _+_, _-_, _/_, _%_, _^_, _≤_, _<_}
+use native.Mathlib.Omega.{arith}
+use native.Mathlib.Nat.{pow-suc}
+use lib.ListN.{length, take, drop, getD}
+use borrow.Author.Tests.{eq-eqb}
+use Rattle.players.specs.declared.Step.{Step}
+use Rattle.session.specs.Layout.{widths, stands, bytes, field-bytes, last-kind, map-of}
+use Rattle.session.specs.Records.{kind-and-fields, kind, encode}
+use Rattle.session.specs.Fields.{standing, spread, six, numbers-of}
+use Rattle.session.specs.Text.{Puts, standing-bytes, first-bytes}
+use Rattle.session.proofs.FieldLaws.{count}
+use Rattle.session.proofs.StepLaws.{known, kind-map}
+
+-- ---- a number, byte by byte
+
+-- of the number n, at a place of the line l, the rest still has so many bytes
+pub record Left (l : List ℕ) (at width n : ℕ) (l′ : List ℕ) (place rest left : ℕ) : Type 0 where
+  pub stands : take place l′ ++ bytes left rest ≡ take at l ++ bytes width n
+  pub ends : place + left ≤ at + width
+  pub fits : rest < 256 ^ left
+
+-- nothing is put yet
+pub number-begin : (l : List ℕ) (at width n : ℕ) → n < 256 ^ width → Left l at width n l at n width
+number-begin l at width n h = record { stands = refl; ends = omega arith; fits = h }
+
+module _ (l : List ℕ) (at width n : ℕ) (l′ l″ : List ℕ) (place rest r : ℕ) where
+  -- one byte more
+  pub number-more : (left : ℕ) → 1 < left → Left l at width n l′ place rest left → Puts (rest % 256 ∷ []) 1 place l′ l″ r
+      → Left l at width n l″ r (rest / 256) (left - 1)
+  number-more zero h a p = absurd (omega arith)
+  number-more (suc zero) h a p = absurd (omega arith)
+  number-more (suc (suc w)) h a p =
+      let q : suc (suc w) - 1 ≡ suc w = omega arith in
+      rw q
+      (record {
+        stands =
+            ap (λ (k : List ℕ). k ++ bytes (suc w) (rest / 256)) (p .stands)
+            ∙ append-assoc (take place l′) (rest % 256 ∷ []) (bytes (suc w) (rest / 256))
+            ∙ a .stands;
+        ends = omega (arith, a .ends, p .ends);
+        fits = omega (arith, a .fits, pow-suc 256 (suc w));
+      })
+
+  -- the last
+  pub number-end : (left : ℕ) → left ≡ 1 → Left l at width n l′ place rest left → Puts (rest ∷ []) 1 place l′ l″ r → Puts (bytes width n) width at l l″ r
+  number-end left q a p =
+      let a′ : Left l at width n l′ place rest 1 = rw q at a in
+      record { stands = p .stands ∙ a′ .stands; ends = omega (arith, a′ .ends, p .ends) }
+
+-- ---- the fields of a map
+
+-- the first of them, and the others
+field-first : (w : ℕ) (ws : List ℕ) (m v : ℕ) (vs : List ℕ)
+    → field-bytes (w ∷ ws) m (standing m (v ∷ vs)) ≡ standing-bytes m w v ++ field-bytes ws (m / 2) (standing (m / 2) vs)
+unfolding field-bytes standing
+field-first w ws m v vs = by-bit (stands m)
+  where
+    by-bit : (b : Bool) → (
+        let us = cond b (v ∷ standing (m / 2) vs) (standing (m / 2) vs) in
+        cond b (bytes w (getD us 0 0) ++ field-bytes ws (m / 2) (drop 1 us)) (field-bytes ws (m / 2) us)
+        ≡ cond b (bytes w v) [] ++ field-bytes ws (m / 2) (standing (m / 2) vs)
+        )
+    by-bit true = refl
+    by-bit false = refl
+
+no-fields : (m : ℕ) (vs : List ℕ) → field-bytes [] m vs ≡ []
+unfolding field-bytes
+no-fields m vs = refl
+
+-- a map and all six
+pub six-bytes : (m k p e h v s : ℕ)
+    → first-bytes m k p e ++ (standing-bytes (m / 8) 2 h ++ (standing-bytes (m / 16) 4 v ++ standing-bytes (m / 32) 4 s))
+    ≡ m ∷ field-bytes widths m (standing m (six k p e h v s))
+six-bytes m k p e h v s =
+    let q2 : m / 2 / 2 ≡ m / 4 = omega arith in
+    let q3 : m / 4 / 2 ≡ m / 8 = omega arith in
+    let q4 : m / 8 / 2 ≡ m / 16 = omega arith in
+    let q5 : m / 16 / 2 ≡ m / 32 = omega arith in
+    simp (append-assoc, field-first, no-fields, append-nil, q2, q3, q4, q5)
+
+-- ---- a step
+
+-- the numbers of the standing bits, spread, are those again
+pub standing-spread : (ws : List ℕ) (m : ℕ) (vs : List ℕ) → length vs ≡ count ws m → standing m (spread (length ws) m vs) ≡ vs
+unfolding standing spread
+standing-spread [] m [] h = refl
+standing-spread [] m (v ∷ vs) h = absurd (omega arith)
+standing-spread (w ∷ ws) m vs h = by-bit (stands m) refl vs (standing-spread ws (m / 2)) h
+  where
+    by-bit : (b : Bool) → stands m ≡ b → (vs : List ℕ) → ((us : List ℕ) → length us ≡ count ws (m / 2) → standing (m / 2) (spread (length ws) (m / 2) us) ≡ us)
+        → length vs ≡ cond b (suc (count ws (m / 2))) (count ws (m / 2))
+        → standing m (cond b (getD vs 0 0 ∷ spread (length ws) (m / 2) (drop 1 vs)) (0 ∷ spread (length ws) (m / 2) vs)) ≡ vs
+    by-bit false e vs back h = rw e (back vs h)
+    by-bit true e [] back h = absurd (omega arith)
+    by-bit true e (v ∷ vs) back h = rw e (ap (λ (l : List ℕ). v ∷ l) (back vs (omega arith)))
+
+-- the first of a step's numbers is its kind
+pub first-number : (x : Step) → getD (numbers-of x) 0 0 ≡ kind x
+unfolding spread
+first-number x =
+    let m = map-of (kind x) in
+    rw (eq-eqb (m % 2) 1 (kind-map (kind x) (known x .from) (known x .to) .odd))
+
+-- a step's numbers begin with a kind
+pub first-known : (x : Step) (vs : List ℕ) → vs ≡ numbers-of x → getD vs 0 0 ≤ last-kind
+first-known x vs e = rw (e, first-number x) (known x .to)
+
+-- the map of that kind, and its fields among them, are the record
+pub encoded : (x : Step) (vs : List ℕ) (m : ℕ) → vs ≡ numbers-of x → m ≡ map-of (getD vs 0 0) → m ∷ field-bytes widths m (standing m vs) ≡ encode x
+encoded x vs m e q =
+    let k : m ≡ map-of (kind x) = q ∙ ap (λ (l : List ℕ). map-of (getD l 0 0)) e ∙ ap map-of (first-number x) in
+    rw (k, e, standing-spread widths (map-of (kind x)) (kind-and-fields x) (known x .fields))

@@ -1,0 +1,5 @@
+// The longest session, in bytes.
+pub const LONGEST: usize = 16384;
+
+// The words of a reply in the list for replies.
+pub const REPLY: usize = 3;
