@@ -1,5 +1,6 @@
 // Reads a session on standard input and prints its listing.
 use session::Report;
+use session::sizes;
 use store::Reply;
 ghost use mathlib.Core.Path.{_≡_};
 ghost use mathlib.Core.List.{_++_};
@@ -9,12 +10,20 @@ ghost use Rattle.session.specs.Listing.{header, reply-line, reply-lines, end-li
 ghost use Rattle.session.specs.Text.{Puts};
 ghost use Rattle.steps.specs.RunCalls.{reply-at, replies-from};
 
+// The budget of the run, and the places of its list for replies.
+const BUDGET: u32 = 16384;
+
+const PLACES: usize = 5460;
+
+// Room for the longest listing.
+const ROOM: usize = 240304;
+
 // Puts the line of the reply that stands at a place of the list, and gives the place after it.
 fn reply_line(replies: &[u32], i: usize, out: &mut [u8], at: usize) -> usize
     requires { ⌜ (3 * i + 3 ≤ length (now replies)) × (i + 1 ≤ 4294967295) × (at + 44 ≤ length (now out)) ⌝ }
     ensures { λ r. ⌜ Puts (reply-line (i + 1) (reply-at (now (replies .entry)) i)) 44 at (now (out .entry)) (now (out .exit)) r ⌝ }
 {
-    let place = 3 * i;
+    let place = sizes::REPLY * i;
     let reply = Reply {
         code: replies[place],
         a: replies[place + 1],
@@ -56,16 +65,16 @@ fn list(session: &[u8], out: &mut [u8]) -> usize
 {
     let mut store = [0u32; store::layout::WORDS];
     let mut players = [0u32; players::layout::WORDS];
-    let mut replies = [0u32; 16380];
+    let mut replies = [0u32; PLACES * sizes::REPLY];
     players::fresh(&mut store, &mut players);
-    let report = steps::running::run(&mut store, &mut players, session, 16384, &mut replies);
+    let report = steps::running::run(&mut store, &mut players, session, BUDGET, &mut replies);
     lines(report, &replies, out)
 }
 
 fn main() {
-    let mut session = [0u8; 16385];
+    let mut session = [0u8; sizes::LONGEST + 1];
     let n = io::read_full(0, &mut session);
-    let mut out = [0u8; 240304];
+    let mut out = [0u8; ROOM];
     let m = list(&session[..n], &mut out);
     io::write_all(1, &out[..m]);
 }

@@ -15,7 +15,7 @@ use Rattle.players.specs.Rules.{Cached, empty, Player, State, with-players, cle
 use Rattle.players.specs.Table.{the-held, the-guards, the-versions, the-values, cells, tableOf}
 use Rattle.players.proofs.Regions.{made-set}
 use Rattle.players.proofs.Tables.{made-of}
-use Rattle.steps.specs.Calls.{caching, dropped}
+use Rattle.steps.specs.InnerWords.{caching, dropped}
 use Rattle.steps.proofs.RunLaws.{within-in, within-below, within-above, same-cells, set-cells, put-part}
 use Rattle.steps.proofs.StateLaws.{held-word, field-cond}
 

@@ -20,7 +20,7 @@ use Rattle.session.specs.declared.Decoded.{Decoded}
 use Rattle.session.specs.declared.Decoded.the-variants.{Record, Refused}
 use Rattle.session.specs.Records.{decode}
 use Rattle.session.specs.Mark.{mark, marked}
-use Rattle.session.specs.Runs.{Run, at-end, stopped, took, on-record, run-from, allowed, run, longest, whole-places}
+use Rattle.session.specs.Runs.{Run, at-end, no-mark, too-long, stopped, took, on-record, run-from, allowed, run, longest, whole-places}
 use Rattle.steps.specs.RunCalls.{encoded, ran}
 use Rattle.steps.proofs.RanLaws.{allowed-few, ran-run}
 
@@ -53,8 +53,8 @@ pub counted : (s : State) (session : List ℕ) (budget places : ℕ) → Counted
 counted s session budget places =
     let f = allowed-few budget places in
     let c = counted-from (allowed budget places) s 4 (drop (length mark) session) in
-    cond-elim (Counted places) (ltb longest (length session)) _ _ (λ _. none places 37 0 s) (λ _.
-    cond-elim (Counted places) (marked session) _ _ (λ _. record { replied = c .replied; few = omega (arith, f .1, c .few) }) (λ _. none places 23 0 s))
+    cond-elim (Counted places) (ltb longest (length session)) _ _ (λ _. none places too-long 0 s) (λ _.
+    cond-elim (Counted places) (marked session) _ _ (λ _. record { replied = c .replied; few = omega (arith, f .1, c .few) }) (λ _. none places no-mark 0 s))
 
 -- ---- from fresh tables
 

@@ -9,25 +9,29 @@ use native.Mathlib.Nat.{add-suc}
 use native.Mathlib.Omega.{arith}
 use lib.Dec.{leb, eqb}
 use lib.ListN.{length, getD, take, drop, length-map}
+use mir.Syntax.{w32}
+use mir.Val.{Fits}
+use borrow.Author.Needs.{fits-under}
 use borrow.Author.Tests.{eq-eqb, ne-eqb, le-leb, lt-leb, lt-ltb, le-ltb, leb-false}
 use borrow.Rule.Slice.PartMut.{putMid}
 use Rattle.store.specs.declared.Range.{Range}
 use Rattle.store.specs.declared.Reply.{Reply}
 use Rattle.requests.specs.declared.Request.{Request}
+use Rattle.requests.specs.declared.Look.the-variants.{Requesting, Writing, Crossing}
 use Rattle.requests.specs.declared.Scan.{Scan}
 use Rattle.requests.specs.Model.{places, requesting, writing, using-entry, new-request, mark-overlapped, any}
 use Rattle.requests.specs.Region.{regionOf}
-use Rattle.requests.specs.Calls.{scanned, full, Crossing, crossing, crossed}
+use Rattle.requests.specs.Calls.{full, Pass, pass, passed}
 use Rattle.requests.proofs.Basics.{decide}
-use Rattle.requests.proofs.RegionLaws.{crossed-region}
+use Rattle.requests.proofs.RegionLaws.{passed-region}
 use Rattle.players.specs.declared.Step.the-variants.{RequestGuard, Read, Write}
 use Rattle.players.specs.Replies.{refusal, issued, cache-read}
 use Rattle.players.specs.Rules.{empty, State, Result, with-player, with-requests, every, all-entries, owns, live, cleared as cleared-player, request-guard, cache-hit, read-from-store, write, with-cached, step}
 use Rattle.players.specs.Table.{players-words, tableOf}
 use Rattle.players.proofs.Tables.{Ok}
-use Rattle.steps.specs.Calls.{Moves, live-guard, hit, all-are, added, caching, cleared}
+use Rattle.steps.specs.InnerWords.{Moves, live-guard, hit, all-are, added, caching, cleared}
 use Rattle.steps.proofs.StateLaws.{part-of, owner-word, version-word, value-word, live-state, hit-state, requests-put, added-state, cached-put, cleared-put}
-use Rattle.steps.proofs.MoveLaws.{moves, stays, refused, last-is, full-is, scan-is}
+use Rattle.steps.proofs.MoveLaws.{moves, stays, refused, last-is, full-is, scan-is, told, unmarked}
 
 -- ---- a place and a serial are needed
 
@@ -38,6 +42,10 @@ module _ {t : List ℕ} {s : State} (o : Ok s) (y : t ≡ tableOf s) where
 
   left-is : getD t 0 0 < 4000000 → leb 4000000 (s .last) ≡ false
   left-is h = let n = last-is o y in lt-leb 4000000 (s .last) (omega arith)
+
+-- the next serial fits its word
+pub next-fits : (n : ℕ) → n < 4000000 → Fits w32 (n + 1)
+next-fits n h = fits-under w32 (n + 1) 4000001 (omega arith) tt
 
 -- ---- 4 read
 
@@ -66,20 +74,20 @@ module _ (t : List ℕ) (l : length t ≡ players-words) (p e : ℕ) where
         pub read-spent : 4000000 ≤ getD t 0 0 → (r : Reply) → r ≡ refusal 34 → Moves f t r t
         read-spent k r er = refused f t l 34 r er (λ s o y. rw (lt-leb 8 p hp, hit-is s y false b, full-is o y false h, spent-is o y k))
 
-        pub read-done : getD t 0 0 < 4000000 → (g : ℕ) → g ≡ live-guard t p e → (x : Scan) → x ≡ scanned (writing p e) (take 768 (drop 8705 t)) → (q : Request) → q ≡ new-request (getD t 0 0 + 1) p 4 e 0 0 g (x .hit) → (t′ : List ℕ) → t′ ≡ added (x .used) q t
+        pub read-done : getD t 0 0 < 4000000 → (g : ℕ) → g ≡ live-guard t p e → (x : Scan) (c : List ℕ) → pass x c ≡ passed (Writing p e) (take 768 (drop 8705 t)) → (q : Request) → q ≡ new-request (getD t 0 0 + 1) p 4 e 0 0 g (x .hit) → (t′ : List ℕ) → t′ ≡ added (x .used) q (putMid 8705 768 t c)
             → (r : Reply) → r ≡ issued (getD t 0 0 + 1) → Moves f t r t′
-        read-done k g eg x ex q eq t′ et r er =
+        read-done k g eg x c ec q eq t′ et r er =
             moves f t l r t′
             (λ s o y.
             let m = last-is o y in
-            let sc = scan-is o y (writing p e) x ex in
+            let sc = scan-is o y (writing p e) x (told (Writing p e) (λ _. refl) t ec) in
             let d : f s ≡ read-from-store s p e = rw (lt-leb 8 p hp, hit-is s y false b, full-is o y false h, left-is o y k) in
             let g-is : g ≡ cond (live s p e) (s .player p .held e) 0 = eg ∙ ap (λ (u : List ℕ). live-guard u p e) y ∙ live-state s p e hp he in
             let q-is : q ≡ new-request (s .last + 1) p 4 e 0 0 (cond (live s p e) (s .player p .held e) 0) (any (writing p e) (s .requests)) = eq ∙ rw (m, g-is, sc) in
-            let c : length (s .requests) < places = leb-false places (length (s .requests)) (full-is o y false h) in
+            let n : length (s .requests) < places = leb-false places (length (s .requests)) (full-is o y false h) in
             rw d (
               er ∙ ap (λ (i : ℕ). issued (i + 1)) m,
-              et ∙ rw (y, q-is, sc) (added-state s (length (s .requests)) (new-request (s .last + 1) p 4 e 0 0 (cond (live s p e) (s .player p .held e) 0) (any (writing p e) (s .requests))) refl c refl),
+              et ∙ rw (unmarked (Writing p e) (λ _. refl) t ec, y, q-is, sc) (added-state s (length (s .requests)) (new-request (s .last + 1) p 4 e 0 0 (cond (live s p e) (s .player p .held e) 0) (any (writing p e) (s .requests))) refl n refl),
             ))
 
 -- ---- 5 write
@@ -131,7 +139,7 @@ module _ (t : List ℕ) (l : length t ≡ players-words) (p e v : ℕ) where
           pub write-spent : 4000000 ≤ getD t 0 0 → (r : Reply) → r ≡ refusal 34 → Moves w t r t
           write-spent k r er = refused w t l 34 r er (λ s o y. rw (lt-leb 8 p hp, alive s y .0, owned s y, full-is o y false h, spent-is o y k))
 
-          pub write-done : getD t 0 0 < 4000000 → (t₁ : List ℕ) → t₁ ≡ caching (p * 256 + e) 0 0 0 t → (x : Scan) (c : List ℕ) → crossing x c ≡ crossed p e (take 768 (drop 8705 t₁))
+          pub write-done : getD t 0 0 < 4000000 → (t₁ : List ℕ) → t₁ ≡ caching (p * 256 + e) 0 0 0 t → (x : Scan) (c : List ℕ) → pass x c ≡ passed (Crossing p e) (take 768 (drop 8705 t₁))
               → (q : Request) → q ≡ new-request (getD t 0 0 + 1) p 5 e 0 v g (x .hit) → (t′ : List ℕ) → t′ ≡ added (x .used) q (putMid 8705 768 t₁ c) → (r : Reply) → r ≡ issued (getD t 0 0 + 1) → Moves w t r t′
           write-done k t₁ e₁ x c ec q eq t′ et r er =
               moves w t l r t′
@@ -142,9 +150,9 @@ module _ (t : List ℕ) (l : length t ≡ players-words) (p e v : ℕ) where
               let s₁ = with-cached s p e empty in
               let s₂ = with-requests s₁ ms in
               let y₁ : t₁ ≡ tableOf s₁ = e₁ ∙ ap (caching (p * 256 + e) 0 0 0) y ∙ cached-put s p hp e he empty in
-              let cr : crossing x c ≡ crossing (record { used = length rs; hit = any (writing p e) rs }) (regionOf ms) = ec ∙ ap (λ (u : List ℕ). crossed p e (take 768 (drop 8705 u))) y₁ ∙ ap (crossed p e) (part-of s₁) ∙ crossed-region (s .last) rs (o .few) (o .requests) p e in
-              let x-is : x ≡ record { used = length rs; hit = any (writing p e) rs } = ap (λ (d : Crossing). d .scan) cr in
-              let y₂ : putMid 8705 768 t₁ c ≡ tableOf s₂ = rw y₁ (requests-put s₁ c ms (ap (λ (d : Crossing). d .words) cr)) in
+              let cr : pass x c ≡ pass (record { used = length rs; hit = any (writing p e) rs }) (regionOf ms) = ec ∙ ap (λ (u : List ℕ). passed (Crossing p e) (take 768 (drop 8705 u))) y₁ ∙ ap (passed (Crossing p e)) (part-of s₁) ∙ passed-region (s .last) rs (o .few) (o .requests) (Crossing p e) in
+              let x-is : x ≡ record { used = length rs; hit = any (writing p e) rs } = ap (λ (d : Pass). d .scan) cr in
+              let y₂ : putMid 8705 768 t₁ c ≡ tableOf s₂ = rw y₁ (requests-put s₁ c ms (ap (λ (d : Pass). d .words) cr)) in
               let d : w s ≡ write s p e v = rw (lt-leb 8 p hp, alive s y .0, owned s y, full-is o y false h, left-is o y k) in
               let a = new-request (s .last + 1) p 5 e 0 v (s .player p .held e) (any (writing p e) rs) in
               let q-is : q ≡ a = eq ∙ rw (m, alive s y .1, x-is) in
@@ -184,46 +192,57 @@ module _ (t : List ℕ) (l : length t ≡ players-words) (p : ℕ) (g : Range) w
         pub request-owner : false ≡ all-are p (1 + g .low) (1 + g .high - (1 + g .low)) t → (r : Reply) → r ≡ refusal 29 → Moves a t r t
         request-owner b r er = refused a t l 29 r er (λ s o y. rw (lt-leb 8 p hp, lt-ltb (g .low) (g .high) hl, le-leb (g .high) 256 hh, owns-is s y false b))
 
-        module _ (b : true ≡ all-are p (1 + g .low) (1 + g .high - (1 + g .low)) t) (x : Scan) (ex : x ≡ scanned (requesting p g) (take 768 (drop 8705 t))) where
+        module _ (b : true ≡ all-are p (1 + g .low) (1 + g .high - (1 + g .low)) t) (x : Scan) (c : List ℕ) (ec : pass x c ≡ passed (Requesting p g) (take 768 (drop 8705 t))) where
+          abbrev u : List ℕ
+          u = putMid 8705 768 t c
+
+          same : u ≡ t
+          same = unmarked (Requesting p g) (λ _. refl) t ec
+
           module _ (s : State) (o : Ok s) (y : t ≡ tableOf s) where
-            hit-of : (c : Bool) → x .hit ≡ c → any (requesting p g) (s .requests) ≡ c
-            hit-of c ec = sym (ap (λ (i : Scan). i .hit) (scan-is o y (requesting p g) x ex)) ∙ ec
+            scan-of : x ≡ record { used = length (s .requests); hit = any (requesting p g) (s .requests) }
+            scan-of = scan-is o y (requesting p g) x (told (Requesting p g) (λ _. refl) t ec)
+
+            hit-of : (d : Bool) → x .hit ≡ d → any (requesting p g) (s .requests) ≡ d
+            hit-of d ed = sym (ap (λ (i : Scan). i .hit) scan-of) ∙ ed
 
             used-of : x .used ≡ length (s .requests)
-            used-of = ap (λ (i : Scan). i .used) (scan-is o y (requesting p g) x ex)
+            used-of = ap (λ (i : Scan). i .used) scan-of
 
-          pub request-again : x .hit ≡ true → (r : Reply) → r ≡ refusal 31 → Moves a t r t
-          request-again c r er = refused a t l 31 r er (λ s o y. rw (lt-leb 8 p hp, lt-ltb (g .low) (g .high) hl, le-leb (g .high) 256 hh, owns-is s y true b, hit-of s o y true c))
+          pub request-again : x .hit ≡ true → (r : Reply) → r ≡ refusal 31 → Moves a t r u
+          request-again d r er = rw same (refused a t l 31 r er (λ s o y. rw (lt-leb 8 p hp, lt-ltb (g .low) (g .high) hl, le-leb (g .high) 256 hh, owns-is s y true b, hit-of s o y true d)))
 
-          module _ (c : x .hit ≡ false) where
-            pub request-full : 64 ≤ x .used → (r : Reply) → r ≡ refusal 33 → Moves a t r t
+          module _ (d : x .hit ≡ false) where
+            pub request-full : 64 ≤ x .used → (r : Reply) → r ≡ refusal 33 → Moves a t r u
             request-full h r er =
-                refused a t l 33 r er
+                rw same
+                (refused a t l 33 r er
                 (λ s o y.
-                let u = used-of s o y in
-                rw (lt-leb 8 p hp, lt-ltb (g .low) (g .high) hl, le-leb (g .high) 256 hh, owns-is s y true b, hit-of s o y false c, le-leb 64 (length (s .requests)) (omega arith)))
+                let i = used-of s o y in
+                rw (lt-leb 8 p hp, lt-ltb (g .low) (g .high) hl, le-leb (g .high) 256 hh, owns-is s y true b, hit-of s o y false d, le-leb 64 (length (s .requests)) (omega arith))))
 
             module _ (h : x .used < 64) where
-              pub request-spent : 4000000 ≤ getD t 0 0 → (r : Reply) → r ≡ refusal 34 → Moves a t r t
+              pub request-spent : 4000000 ≤ getD u 0 0 → (r : Reply) → r ≡ refusal 34 → Moves a t r u
               request-spent k r er =
-                  refused a t l 34 r er
+                  rw same
+                  (refused a t l 34 r er
                   (λ s o y.
-                  let u = used-of s o y in
-                  rw (lt-leb 8 p hp, lt-ltb (g .low) (g .high) hl, le-leb (g .high) 256 hh, owns-is s y true b, hit-of s o y false c, lt-leb 64 (length (s .requests)) (omega arith), spent-is o y k))
+                  let i = used-of s o y in
+                  rw (lt-leb 8 p hp, lt-ltb (g .low) (g .high) hl, le-leb (g .high) 256 hh, owns-is s y true b, hit-of s o y false d, lt-leb 64 (length (s .requests)) (omega arith), spent-is o (same ∙ y) k)))
 
-              pub request-done : getD t 0 0 < 4000000 → (t₁ : List ℕ) → t₁ ≡ cleared (p * 256 + g .low) (p * 256 + g .high) t → (q : Request) → q ≡ new-request (getD t 0 0 + 1) p 3 (g .low) (g .high) 0 0 false
-                  → (t′ : List ℕ) → t′ ≡ added (x .used) q t₁ → (r : Reply) → r ≡ issued (getD t 0 0 + 1) → Moves a t r t′
+              pub request-done : getD u 0 0 < 4000000 → (t₁ : List ℕ) → t₁ ≡ cleared (p * 256 + g .low) (p * 256 + g .high) u → (q : Request) → q ≡ new-request (getD u 0 0 + 1) p 3 (g .low) (g .high) 0 0 false
+                  → (t′ : List ℕ) → t′ ≡ added (x .used) q t₁ → (r : Reply) → r ≡ issued (getD u 0 0 + 1) → Moves a t r t′
               request-done k t₁ e₁ q eq t′ et r er =
                   moves a t l r t′
                   (λ s o y.
-                  let m = last-is o y in
-                  let u = used-of s o y in
+                  let m = last-is o (same ∙ y) in
+                  let i = used-of s o y in
                   let lo = g .low in
                   let hi = g .high in
                   let pl = cleared-player lo hi (s .player p) in
                   let s₁ = with-player s p pl in
-                  let y₁ : t₁ ≡ tableOf s₁ = e₁ ∙ ap (cleared (p * 256 + lo) (p * 256 + hi)) y ∙ cleared-put s p hp lo hi (omega arith) hh pl (λ i _. refl) (λ i _. refl) in
-                  let d : a s ≡ request-guard s p g = rw (lt-leb 8 p hp, lt-ltb lo hi hl, le-leb hi 256 hh, owns-is s y true b, hit-of s o y false c, lt-leb 64 (length (s .requests)) (omega arith), left-is o y k) in
+                  let y₁ : t₁ ≡ tableOf s₁ = e₁ ∙ ap (cleared (p * 256 + lo) (p * 256 + hi)) (same ∙ y) ∙ cleared-put s p hp lo hi (omega arith) hh pl (λ i _. refl) (λ i _. refl) in
+                  let f : a s ≡ request-guard s p g = rw (lt-leb 8 p hp, lt-ltb lo hi hl, le-leb hi 256 hh, owns-is s y true b, hit-of s o y false d, lt-leb 64 (length (s .requests)) (omega arith), left-is o (same ∙ y) k) in
                   let j = new-request (s .last + 1) p 3 lo hi 0 0 false in
                   let q-is : q ≡ j = eq ∙ rw m in
-                  rw d (er ∙ ap (λ (i : ℕ). issued (i + 1)) m, et ∙ rw (y₁, q-is) (added-state s₁ (x .used) j u (omega arith) refl)))
+                  rw f (er ∙ ap (λ (i : ℕ). issued (i + 1)) m, et ∙ rw (y₁, q-is) (added-state s₁ (x .used) j i (omega arith) refl)))

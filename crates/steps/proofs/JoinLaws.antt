@@ -2,7 +2,7 @@
 -- Assumes nothing.
 use mathlib.Core.Path.{_≡_, refl, sym, ap, _∙_}
 use mathlib.Core.Logic.{⊎-elim}
-use mathlib.Core.Bool.{Bool, true, false, cond, not, _&&_, _||_}
+use mathlib.Core.Bool.{Bool, true, false, cond, not, _||_}
 use mathlib.Core.List.{List}
 use Prim.Native.Nat.{ℕ}
 use lib.Dec.{leb, eqb}
@@ -13,18 +13,20 @@ use Rattle.store.specs.declared.Range.{Range}
 use Rattle.store.specs.Model.{serials, bad-range}
 use Rattle.store.specs.Table.{tableOf as store-table}
 use Rattle.requests.specs.declared.Request.{Request}
-use Rattle.requests.specs.Model.{places, is-guard-request, is-read, is-write, pending, serial-is, requesting, any}
+use Rattle.requests.specs.declared.Fit.{Fit}
+use Rattle.requests.specs.declared.Fit.the-variants.{Answerable, Pending, Abandoned}
+use Rattle.requests.specs.Model.{places, is-guard-request, is-read, is-write, named, requesting, any}
 use Rattle.requests.proofs.Basics.{decide, clash, cond-elim}
 use Rattle.requests.proofs.Rising.{find-elim}
 use Rattle.players.specs.declared.Step.the-variants.{Assign, Release, RequestGuard, Read, Write, Respond, Abandon, Lose, RestartPlayer}
 use Rattle.players.specs.Replies.{refusal, no-place-left, no-serial-left, no-such-request}
 use Rattle.players.specs.Rules.{State, Result, check, need-serial, need-place, on-request, all-entries, owns, live, cache, set-owner, request-guard, cache-hit, read-from-cache, read-from-store, write, respond-guard-request, respond-read, respond-write, respond, abandon, lose, restart-player, may-cache, still-owned, step}
 use Rattle.players.specs.Table.{players-words, stateOf}
-use Rattle.players.specs.Calls.{left, whole, Steps}
+use Rattle.players.specs.Calls.{left, whole, Refines}
 use Rattle.players.proofs.CheckLaws.{store-long, players-long}
 use Rattle.players.proofs.Tables.{store-table-back}
-use Rattle.steps.specs.Calls.{Moves}
-use Rattle.steps.specs.StoreCalls.{Shifts, Acts}
+use Rattle.steps.specs.InnerWords.{Moves}
+use Rattle.steps.specs.InnerStore.{Shifts, Acts}
 
 -- ---- a call on both tables
 
@@ -32,8 +34,8 @@ left-is : {r r′ : Reply} {st st′ t t′ : List ℕ} → r ≡ r′ → st �
 left-is a b c = rw (a, b, c)
 
 module _ (f : State → Result) (st t : List ℕ) (w : whole st t ≡ true) (r : Reply) where
-  pub moves-steps : (t′ : List ℕ) → ((s : State) → f s .state .store ≡ s .store) → Moves f t r t′ → Steps f st t r st t′
-  moves-steps t′ k m =
+  pub moves-refines : (t′ : List ℕ) → ((s : State) → f s .state .store ≡ s .store) → Moves f t r t′ → Refines f st t r st t′
+  moves-refines t′ k m =
       record {
         wrong = λ h. clash w h;
         right =
@@ -43,11 +45,11 @@ module _ (f : State → Result) (st t : List ℕ) (w : whole st t ≡ true) (r :
             left-is (x .0) (sym (store-table-back st t v ls (players-long st t w)) ∙ ap store-table (sym (k (stateOf st t)))) (x .1);
       }
 
-  pub shifts-steps : (st′ : List ℕ) → Shifts f st r st′ → Steps f st t r st′ t
-  shifts-steps st′ m = record { wrong = λ h. clash w h; right = λ _ v. m .shifted t (players-long st t w) v }
+  pub shifts-refines : (st′ : List ℕ) → Shifts f st r st′ → Refines f st t r st′ t
+  shifts-refines st′ m = record { wrong = λ h. clash w h; right = λ _ v. m .shifted t (players-long st t w) v }
 
-  pub acts-steps : (st′ t′ : List ℕ) → Acts f st t r st′ t′ → Steps f st t r st′ t′
-  acts-steps st′ t′ m = record { wrong = λ h. clash w h; right = λ _ v. m .acted v }
+  pub acts-refines : (st′ t′ : List ℕ) → Acts f st t r st′ t′ → Refines f st t r st′ t′
+  acts-refines st′ t′ m = record { wrong = λ h. clash w h; right = λ _ v. m .acted v }
 
 -- ---- the steps that leave the store alone
 
@@ -69,8 +71,8 @@ module _ (s : State) where
   after-place : (x : Result) → Keeps x → Keeps (need-place s x)
   after-place x k = after-check (leb places (length (s .requests))) no-place-left (need-serial s x) (after-serial x k)
 
-  on-one : (n : ℕ) (f : Request → Bool) (go : Request → Result) → ((r : Request) → Keeps (go r)) → Keeps (on-request s n f go)
-  on-one n f go k = find-elim Keeps (λ r. serial-is n r && f r) (s .requests) (record { state = s; reply = refusal no-such-request }) go refl (λ r _ _. k r)
+  on-one : (f : Fit) (n : ℕ) (go : Request → Result) → ((r : Request) → Keeps (go r)) → Keeps (on-request s f n go)
+  on-one f n go k = find-elim Keeps (named f n) (s .requests) (record { state = s; reply = refusal no-such-request }) go refl (λ r _ _. k r)
 
   either : (b : Bool) (x y : Result) → Keeps x → Keeps y → Keeps (cond b x y)
   either b x y p q = cond-elim Keeps b x y (λ _. p) (λ _. q)
@@ -108,16 +110,16 @@ module _ (s : State) where
 
   pub respond-keeps : (n : ℕ) → step s (Respond n) .state .store ≡ s .store
   respond-keeps n =
-      on-one n (λ r. r .delivered && pending r) (respond s)
+      on-one Answerable n (respond s)
       (λ r.
       either (is-guard-request r) (respond-guard-request s r) (cond (is-read r) (respond-read s r) (respond-write s r)) (respond-guard-request-keeps r)
       (either (is-read r) (respond-read s r) (respond-write s r) (cache-keeps r (r .first) (r .second)) (respond-write-keeps r)))
 
   pub abandon-keeps : (n : ℕ) → step s (Abandon n) .state .store ≡ s .store
-  abandon-keeps n = on-one n pending (abandon s) (λ r. ⊎-elim (λ h. rw h) (λ h. rw h) (decide (is-write r)))
+  abandon-keeps n = on-one Pending n (abandon s) (λ r. ⊎-elim (λ h. rw h) (λ h. rw h) (decide (is-write r)))
 
   pub lose-keeps : (n : ℕ) → step s (Lose n) .state .store ≡ s .store
-  lose-keeps n = on-one n (λ r. r .abandoned) (lose s) (λ r. refl)
+  lose-keeps n = on-one Abandoned n (lose s) (λ r. refl)
 
   pub restart-player-keeps : (p : ℕ) → step s (RestartPlayer p) .state .store ≡ s .store
   restart-player-keeps p = after-check (leb 8 p) 28 (restart-player s p) refl

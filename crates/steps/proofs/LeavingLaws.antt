@@ -11,8 +11,10 @@ use borrow.Author.Tests.{eq-eqb, ne-eqb, le-leb, lt-leb}
 use borrow.Rule.Slice.PartMut.{putMid}
 use Rattle.store.specs.declared.Reply.{Reply}
 use Rattle.requests.specs.declared.Request.{Request}
+use Rattle.requests.specs.declared.Fit.{Fit}
+use Rattle.requests.specs.declared.Fit.the-variants.{Pending, Abandoned}
 use Rattle.requests.specs.declared.Found.the-variants.{At, Nowhere}
-use Rattle.requests.specs.Model.{pending, drop-request, change-request, mark-abandoned}
+use Rattle.requests.specs.Model.{drop-request, change-request, mark-abandoned}
 use Rattle.requests.specs.Region.{regionOf}
 use Rattle.requests.specs.Calls.{found, with-abandoned, without, restarted}
 use Rattle.requests.proofs.RegionLaws.{Stands, nowhere-region, found-stands, found-region, without-region, abandoned-region, given-up, restarted-region}
@@ -21,7 +23,7 @@ use Rattle.players.specs.Replies.{refusal}
 use Rattle.players.specs.Rules.{fresh-player, State, Result, with-requests, with-player, removed, on-request, abandon, lose, restart-player, step}
 use Rattle.players.specs.Table.{players-words, tableOf}
 use Rattle.players.proofs.Tables.{Ok}
-use Rattle.steps.specs.Calls.{Moves, giving-up, cleared, dropped}
+use Rattle.steps.specs.InnerWords.{Moves, giving-up, cleared, dropped}
 use Rattle.steps.proofs.RunLaws.{within-in}
 use Rattle.steps.proofs.StateLaws.{part-of, requests-put, cleared-put}
 use Rattle.steps.proofs.DropLaws.{dropped-put}
@@ -29,37 +31,25 @@ use Rattle.steps.proofs.MoveLaws.{result, moves, refused, part-is}
 
 -- ---- a step that names a request
 
-module _ (n : ℕ) (f : Request → Bool) (go : State → Request → Result) (t : List ℕ) (l : length t ≡ players-words) where
+module _ (f : Fit) (n : ℕ) (go : State → Request → Result) (t : List ℕ) (l : length t ≡ players-words) where
   abbrev on : State → Result
-  on s = on-request s n f (go s)
+  on s = on-request s f n (go s)
 
-  pub nowhere-moves : Nowhere ≡ found n (take 768 (drop 8705 t)) → (r : Reply) → r ≡ refusal 32 → Moves on t r t
-  nowhere-moves e r er =
+  -- there is none that it fits
+  pub unfit-moves : Nowhere ≡ found f n (take 768 (drop 8705 t)) → (r : Reply) → r ≡ refusal 32 → Moves on t r t
+  unfit-moves e r er =
       refused on t l 32 r er
-      (λ s o y. nowhere-region (s .last) (s .requests) (o .few) (o .requests) f n (result s (refusal 32)) (go s) (e ∙ ap (found n) (part-is o y)))
+      (λ s o y. nowhere-region (s .last) (s .requests) (o .few) (o .requests) f n (result s (refusal 32)) (go s) (e ∙ ap (found f n) (part-is o y)))
 
-  module _ (k : ℕ) (q : Request) (e : At k q ≡ found n (take 768 (drop 8705 t))) where
-    module _ (s : State) (o : Ok s) (y : t ≡ tableOf s) where
-      found-here : At k q ≡ found n (regionOf (s .requests))
-      found-here = e ∙ ap (found n) (part-is o y)
-
-      stands : Stands q k (s .requests)
-      stands = found-stands (s .last) (s .requests) (o .few) (o .requests) n k q found-here
-
-      on-is : on s ≡ cond (f q) (go s q) (result s (refusal 32))
-      on-is = found-region (s .last) (s .requests) (o .few) (o .requests) n k q found-here f (result s (refusal 32)) (go s)
-
-    -- the request does not fit the step
-    pub unfit-moves : f q ≡ false → (r : Reply) → r ≡ refusal 32 → Moves on t r t
-    unfit-moves b r er = refused on t l 32 r er (λ s o y. on-is s o y ∙ rw b)
-
-    -- it does
-    pub fit-moves : f q ≡ true → (r : Reply) (t′ : List ℕ) → ((s : State) → Ok s → t ≡ tableOf s → Stands q k (s .requests) → (r ≡ go s q .reply) × (t′ ≡ tableOf (go s q .state))) → Moves on t r t′
-    fit-moves b r t′ m =
-        moves on t l r t′
-        (λ s o y.
-        let d : on s ≡ go s q = on-is s o y ∙ rw b in
-        rw d (m s o y (stands s o y)))
+  -- there is one
+  pub fit-moves : (k : ℕ) (q : Request) → At k q ≡ found f n (take 768 (drop 8705 t)) → (r : Reply) (t′ : List ℕ)
+      → ((s : State) → Ok s → t ≡ tableOf s → Stands q k (s .requests) → (r ≡ go s q .reply) × (t′ ≡ tableOf (go s q .state))) → Moves on t r t′
+  fit-moves k q e r t′ m =
+      moves on t l r t′
+      (λ s o y.
+      let i : At k q ≡ found f n (regionOf (s .requests)) = e ∙ ap (found f n) (part-is o y) in
+      let d : on s ≡ go s q = found-region (s .last) (s .requests) (o .few) (o .requests) f n k q i (result s (refusal 32)) (go s) in
+      rw d (m s o y (found-stands (s .last) (s .requests) (o .few) (o .requests) f n k q i)))
 
 -- the request at place k leaves
 module _ {t : List ℕ} {s : State} (o : Ok s) (y : t ≡ tableOf s) {k : ℕ} {q : Request} (x : Stands q k (s .requests)) where
@@ -74,10 +64,10 @@ module _ {t : List ℕ} {s : State} (o : Ok s) (y : t ≡ tableOf s) {k : ℕ} {
 
 -- ---- 9 lose
 
-pub lose-moves : (n : ℕ) (t : List ℕ) → length t ≡ players-words → (k : ℕ) (q : Request) → At k q ≡ found n (take 768 (drop 8705 t)) → q .abandoned ≡ true → (c : List ℕ) → c ≡ without k (take 768 (drop 8705 t))
+pub lose-moves : (n : ℕ) (t : List ℕ) → length t ≡ players-words → (k : ℕ) (q : Request) → At k q ≡ found Abandoned n (take 768 (drop 8705 t)) → (c : List ℕ) → c ≡ without k (take 768 (drop 8705 t))
     → (r : Reply) → r ≡ refusal 0 → Moves (λ s. step s (Lose n)) t r (putMid 8705 768 t c)
-lose-moves n t l k q e b c ec r er =
-    fit-moves n (λ q. q .abandoned) lose t l k q e b r _ (λ s o y x. (er, removed-put o y x c ec))
+lose-moves n t l k q e c ec r er =
+    fit-moves Abandoned n lose t l k q e r _ (λ s o y x. (er, removed-put o y x c ec))
 
 -- ---- 8 abandon
 
@@ -91,10 +81,7 @@ module _ (k : ℕ) (t c : List ℕ) where
   unfolding giving-up
   give-up-abandoned ec d ed = rw (ec, ed)
 
-module _ (n : ℕ) (t : List ℕ) (l : length t ≡ players-words) (k : ℕ) (q : Request) (e : At k q ≡ found n (take 768 (drop 8705 t))) (b : q .abandoned ≡ false) (t₁ : List ℕ) (e₁ : t₁ ≡ giving-up k (q .delivered) t) where
-  waits : pending q ≡ true
-  waits = rw b
-
+module _ (n : ℕ) (t : List ℕ) (l : length t ≡ players-words) (k : ℕ) (q : Request) (e : At k q ≡ found Pending n (take 768 (drop 8705 t))) (t₁ : List ℕ) (e₁ : t₁ ≡ giving-up k (q .delivered) t) where
   given : (s : State) (o : Ok s) (y : t ≡ tableOf s) → Stands q k (s .requests)
       → t₁ ≡ tableOf (with-requests s (cond (q .delivered) (drop-request (q .serial) (s .requests)) (change-request (q .serial) mark-abandoned (s .requests))))
   unfolding giving-up
@@ -106,11 +93,11 @@ module _ (n : ℕ) (t : List ℕ) (l : length t ≡ players-words) (k : ℕ) (q 
       cases false = abandoned-put o y x _ refl
 
   pub abandon-other : (q .kind ≡ 5 → ⊥) → (r : Reply) → r ≡ refusal 0 → Moves (λ s. step s (Abandon n)) t r t₁
-  abandon-other h r er = fit-moves n pending abandon t l k q e waits r t₁ (λ s o y x. (er, rw (ne-eqb (q .kind) 5 h) (given s o y x)))
+  abandon-other h r er = fit-moves Pending n abandon t l k q e r t₁ (λ s o y x. (er, rw (ne-eqb (q .kind) 5 h) (given s o y x)))
 
   pub abandon-write : q .kind ≡ 5 → q .player < 8 → (t′ : List ℕ) → t′ ≡ dropped (q .guard) (q .player * 256) 256 t₁ → (r : Reply) → r ≡ refusal 0 → Moves (λ s. step s (Abandon n)) t r t′
   abandon-write h hp t′ et r er =
-      fit-moves n pending abandon t l k q e waits r t′
+      fit-moves Pending n abandon t l k q e r t′
       (λ s o y x. (
         er,
         rw (eq-eqb (q .kind) 5 h) (et ∙ ap (dropped (q .guard) (q .player * 256) 256) (given s o y x) ∙ dropped-put _ (q .player) (q .guard) hp),

@@ -15,3 +15,5 @@ pub mod LoopLaws
 pub mod RunningLaws
 pub mod RanLaws
 pub mod FreshRuns
+pub mod Refusals
+pub mod WrongPrograms

@@ -1,23 +1,26 @@
 -- How a step on the players' table is shown to be what the rules say: by the state that the table holds.
 -- Assumes nothing.
 use mathlib.Core.Path.{_≡_, sym, ap, _∙_}
-use mathlib.Core.Bool.{Bool}
+use mathlib.Core.Bool.{Bool, false}
 use mathlib.Core.List.{List}
 use Prim.Native.Nat.{ℕ}
 use lib.Dec.{leb}
 use lib.ListN.{length, getD, take, drop}
+use borrow.Rule.Slice.PartMut.{putMid, put-same}
 use Rattle.store.specs.declared.Reply.{Reply}
 use Rattle.requests.specs.declared.Request.{Request}
+use Rattle.requests.specs.declared.Look.{Look}
 use Rattle.requests.specs.declared.Scan.{Scan}
 use Rattle.requests.specs.Model.{places, any}
 use Rattle.requests.specs.Region.{regionOf}
-use Rattle.requests.specs.Calls.{scanned, full}
+use Rattle.requests.specs.Calls.{scanned, full, sought, crossed, Pass, pass, passed}
+use Rattle.requests.proofs.CrossLaws.{pass-unmarked}
 use Rattle.requests.proofs.RegionLaws.{scanned-region, full-region}
 use Rattle.players.specs.Replies.{refusal}
 use Rattle.players.specs.Rules.{State, Result}
 use Rattle.players.specs.Table.{players-words, last-word, stateOf, tableOf}
 use Rattle.players.proofs.Tables.{Ok, ok-tables, players-table-back, last-of}
-use Rattle.steps.specs.Calls.{Moves}
+use Rattle.steps.specs.InnerWords.{Moves}
 use Rattle.steps.proofs.StateLaws.{part-of}
 
 abbrev pub result : State → Reply → Result
@@ -57,3 +60,11 @@ module _ {t : List ℕ} {s : State} (o : Ok s) (e : t ≡ tableOf s) where
 
   pub scan-is : (f : Request → Bool) (x : Scan) → x ≡ scanned f (take 768 (drop 8705 t)) → x ≡ record { used = length (s .requests); hit = any f (s .requests) }
   scan-is f x ex = ex ∙ ap (scanned f) part-is ∙ scanned-region (s .last) (s .requests) (o .few) (o .requests) f
+
+-- a pass that marks nothing: what it tells, and the table stays as it is
+module _ (x : Look) (h : (q : Request) → crossed x q ≡ false) (t : List ℕ) {r : Scan} {c : List ℕ} (e : pass r c ≡ passed x (take 768 (drop 8705 t))) where
+  pub told : r ≡ scanned (sought x) (take 768 (drop 8705 t))
+  told = ap (λ (d : Pass). d .scan) (e ∙ pass-unmarked x h (take 768 (drop 8705 t)))
+
+  pub unmarked : putMid 8705 768 t c ≡ t
+  unmarked = ap (λ (d : Pass). putMid 8705 768 t (d .words)) (e ∙ pass-unmarked x h (take 768 (drop 8705 t))) ∙ put-same 8705 768 t

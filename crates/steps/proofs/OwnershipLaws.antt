@@ -12,7 +12,7 @@ use Rattle.store.specs.declared.Reply.{Reply}
 use Rattle.players.specs.declared.Step.the-variants.{Assign}
 use Rattle.players.specs.Replies.{refusal, issued}
 use Rattle.players.specs.Rules.{set-owner, step}
-use Rattle.steps.specs.Calls.{Moves, own, filled}
+use Rattle.steps.specs.InnerWords.{Moves, own, filled}
 use Rattle.steps.proofs.WordLaws.{fill-part, length-filled}
 use Rattle.steps.proofs.StateLaws.{owners-put}
 use Rattle.steps.proofs.MoveLaws.{moves, refused, same-step, last-is}

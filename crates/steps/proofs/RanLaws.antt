@@ -16,8 +16,9 @@ use Rattle.players.specs.Table.{stateOf, tableOf, valid}
 use Rattle.players.specs.Calls.{whole, Done, checked}
 use Rattle.players.proofs.CallLaws.{same-tables, passed}
 use Rattle.session.specs.Mark.{mark, marked}
-use Rattle.session.specs.Runs.{report, longest, stopped, allowed, run-marked, run, whole-places}
-use Rattle.steps.specs.RunCalls.{Finished, finished, encoded, ran, Ready}
+use Rattle.session.specs.Runs.{report, no-mark, too-long, longest, stopped, allowed, run-marked, run, whole-places}
+use Rattle.steps.specs.RunCalls.{Finished, finished, encoded, ran}
+use Rattle.steps.specs.InnerRun.{Ready}
 use Rattle.session.proofs.MarkLaws.{begins-take}
 use Rattle.session.proofs.WriteLaws.{take-whole}
 
@@ -42,11 +43,11 @@ module _ (st t session : List ℕ) (budget : ℕ) (list : List ℕ) (r : Reply) 
   tables-refused h = rw e (not-both (whole st t) (valid st t) list st t _ (λ x. h (ap (λ (y : Reply). y .code) e ∙ x)))
 
   module _ (z : r .code ≡ 0) where
-    pub length-refused : longest < length session → finished (report 37 0 0) list st t ≡ ran st t session budget list
+    pub length-refused : longest < length session → finished (report too-long 0 0) list st t ≡ ran st t session budget list
     length-refused h = let p = passed st t r e z in rw (p .0, p .1, lt-ltb longest (length session) h)
 
     module _ (short : length session ≤ longest) where
-      pub mark-refused : marked session ≡ false → finished (report 23 0 0) list st t ≡ ran st t session budget list
+      pub mark-refused : marked session ≡ false → finished (report no-mark 0 0) list st t ≡ ran st t session budget list
       mark-refused m = let p = passed st t r e z in rw (p .0, p .1, le-ltb longest (length session) short, m)
 
       module _ (m : marked session ≡ true) where
@@ -57,7 +58,7 @@ module _ (st t session : List ℕ) (budget : ℕ) (list : List ℕ) (r : Reply) 
             record {
               lengths = p .0;
               keeps = rw (p .1) tt;
-              marked = take-whole 4 session mark (begins-take mark session m) refl;
+              marked = take-whole (length mark) session mark (begins-take mark session m) refl;
               short = short;
               room = omega (arith, f .1);
               few = omega (arith, f .0);
@@ -82,8 +83,8 @@ ran-run st t session budget list w v = rw (w, v) (by (ltb longest (length sessio
         rw (es, et)
 
     by : (a m : Bool)
-        → cond a (finished (report 37 0 0) list st t) (cond m (encoded list (run-marked s session budget (whole-places list))) (finished (report 23 0 0) list st t))
-        ≡ encoded list (cond a (stopped 37 0 s) (cond m (run-marked s session budget (whole-places list)) (stopped 23 0 s)))
-    by true m = unchanged 37
+        → cond a (finished (report too-long 0 0) list st t) (cond m (encoded list (run-marked s session budget (whole-places list))) (finished (report no-mark 0 0) list st t))
+        ≡ encoded list (cond a (stopped too-long 0 s) (cond m (run-marked s session budget (whole-places list)) (stopped no-mark 0 s)))
+    by true m = unchanged too-long
     by false true = refl
-    by false false = unchanged 23
+    by false false = unchanged no-mark

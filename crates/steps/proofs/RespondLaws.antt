@@ -13,8 +13,9 @@ use borrow.Author.Tests.{eq-eqb, ne-eqb, eqb-true, eqb-false, le-leb, lt-leb, lt
 use borrow.Rule.Slice.PartMut.{putMid}
 use Rattle.store.specs.declared.Reply.{Reply}
 use Rattle.requests.specs.declared.Request.{Request}
-use Rattle.requests.specs.declared.Found.the-variants.{At, Nowhere}
-use Rattle.requests.specs.Model.{is-guard-request, pending}
+use Rattle.requests.specs.declared.Fit.the-variants.{Answerable}
+use Rattle.requests.specs.declared.Found.the-variants.{At}
+use Rattle.requests.specs.Model.{is-guard-request}
 use Rattle.requests.specs.Region.{fields-hold}
 use Rattle.requests.specs.Calls.{found, without}
 use Rattle.requests.proofs.Basics.{decide, both-left, both-right}
@@ -22,13 +23,13 @@ use Rattle.requests.proofs.Rising.{each-at}
 use Rattle.requests.proofs.RequestRules.{guard-request-range, entry-low, form-of}
 use Rattle.requests.proofs.RegionLaws.{stands-in}
 use Rattle.players.specs.declared.Step.the-variants.{Respond}
-use Rattle.players.specs.Replies.{refusal, granted as grants, not-held, layout-changed, store-read, committed, rejected}
+use Rattle.players.specs.Replies.{granted as grants, not-held, layout-changed, store-read, committed, rejected}
 use Rattle.players.specs.Rules.{Cached, State, removed, every, owns, live, may-cache, with-cached, cache, still-owned, respond-guard-request, respond-read, respond-write, respond, step}
 use Rattle.players.specs.Table.{players-words, tableOf}
-use Rattle.steps.specs.Calls.{Moves, live-guard, caching, filled, dropped}
-use Rattle.steps.specs.RespondCalls.{Responds, owning, still-owning, cacheable, remembering}
+use Rattle.steps.specs.InnerWords.{Moves, live-guard, caching, filled, dropped}
+use Rattle.steps.specs.InnerRespond.{Responds, owning, still-owning, cacheable, remembering}
 use Rattle.steps.proofs.StateLaws.{owner-word, epoch-word, live-state, granted, cached-put}
-use Rattle.steps.proofs.LeavingLaws.{nowhere-moves, unfit-moves, fit-moves, removed-put}
+use Rattle.steps.proofs.LeavingLaws.{fit-moves, removed-put}
 use Rattle.steps.proofs.DropLaws.{dropped-put}
 
 -- ---- still owned: the words
@@ -213,23 +214,9 @@ module _ (r : Request) (t : List ℕ) (x : Reply) (t′ : List ℕ) where
 
 -- ---- step 7
 
-abbrev pub fits : Request → Bool
-fits r = r .delivered && pending r
-
-module _ (t : List ℕ) (l : length t ≡ players-words) (n : ℕ) where
-  pub respond-nowhere : Nowhere ≡ found n (take 768 (drop 8705 t)) → (x : Reply) → x ≡ refusal 32 → Moves (λ s. step s (Respond n)) t x t
-  respond-nowhere e x ex = nowhere-moves n fits respond t l e x ex
-
-  module _ (k : ℕ) (r : Request) (e : At k r ≡ found n (take 768 (drop 8705 t))) where
-    pub respond-early : r .delivered ≡ false → (x : Reply) → x ≡ refusal 32 → Moves (λ s. step s (Respond n)) t x t
-    respond-early d x ex = unfit-moves n fits respond t l k r e (rw d) x ex
-
-    module _ (d : r .delivered ≡ true) where
-      pub respond-abandoned : r .abandoned ≡ true → (x : Reply) → x ≡ refusal 32 → Moves (λ s. step s (Respond n)) t x t
-      respond-abandoned a x ex = unfit-moves n fits respond t l k r e (rw (d, a)) x ex
-
-      -- the request leaves, and then its outcome takes effect
-      pub respond-done : r .abandoned ≡ false → (c : List ℕ) → c ≡ without k (take 768 (drop 8705 t)) → (x : Reply) (t′ : List ℕ) → Responds respond r (putMid 8705 768 t c) x t′ → Moves (λ s. step s (Respond n)) t x t′
-      respond-done a c ec x t′ m =
-          fit-moves n fits respond t l k r e (rw (d, a)) x t′
-          (λ s o y st. m .responded s (form-of (s .last) r (each-at _ 0 (s .requests) (o .requests) r (stands-in st)) .fields) (removed-put o y st c ec))
+-- the request leaves, and then its outcome takes effect
+pub respond-done : (t : List ℕ) → length t ≡ players-words → (n k : ℕ) (r : Request) → At k r ≡ found Answerable n (take 768 (drop 8705 t)) → (c : List ℕ) → c ≡ without k (take 768 (drop 8705 t)) → (x : Reply) (t′ : List ℕ)
+    → Responds respond r (putMid 8705 768 t c) x t′ → Moves (λ s. step s (Respond n)) t x t′
+respond-done t l n k r e c ec x t′ m =
+    fit-moves Answerable n respond t l k r e x t′
+    (λ s o y st. m .responded s (form-of (s .last) r (each-at _ 0 (s .requests) (o .requests) r (stands-in st)) .fields) (removed-put o y st c ec))

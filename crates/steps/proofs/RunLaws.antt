@@ -20,7 +20,7 @@ use Rattle.players.specs.Rules.{Player}
 use Rattle.players.specs.Regions.{region}
 use Rattle.players.specs.Table.{cells}
 use Rattle.players.proofs.Tables.{length-cells}
-use Rattle.steps.specs.Calls.{filled}
+use Rattle.steps.specs.InnerWords.{filled}
 
 -- ---- a range
 

@@ -16,13 +16,15 @@ use Rattle.players.specs.declared.Step.{Step}
 use Rattle.players.specs.Replies.{reply}
 use Rattle.players.specs.Rules.{step}
 use Rattle.players.specs.Table.{stateOf, tableOf, valid}
-use Rattle.players.specs.Calls.{whole, Steps, Done}
+use Rattle.players.specs.Calls.{whole, Refines, Done}
 use Rattle.players.proofs.CallLaws.{same-tables, stepped}
 use Rattle.session.specs.declared.Decoded.{Decoded}
 use Rattle.session.specs.declared.Decoded.the-variants.{Record, Refused}
 use Rattle.session.specs.Records.{decode, Decodes, Bytes}
+use Rattle.session.specs.Mark.{mark}
 use Rattle.session.specs.Runs.{report, Run, at-end, spent, stopped, took, run-from, filled}
-use Rattle.steps.specs.RunCalls.{finished, encoded, Ready}
+use Rattle.steps.specs.RunCalls.{finished, encoded}
+use Rattle.steps.specs.InnerRun.{Ready}
 use Rattle.session.proofs.RoundTrip.{within, decoded-fits}
 use Rattle.steps.proofs.LoopLaws.{after, after-none, after-took, filled-more}
 
@@ -58,7 +60,7 @@ pub record Running (whole-run : Run) (left : ℕ) (session list₀ : List ℕ) (
 module _ (left : ℕ) (session list₀ : List ℕ) where
   -- before the first record
   pub running-begins : (st t : List ℕ) → Ready st t session left list₀
-      → Running (run-from left (stateOf st t) 4 (drop 4 session)) left session list₀ 0 4 st t list₀
+      → Running (run-from left (stateOf st t) (length mark) (drop (length mark) session)) left session list₀ 0 (length mark) st t list₀
   running-begins st t r =
       let e : left - 0 ≡ left = omega arith in
       record {
@@ -117,7 +119,7 @@ module _ (left : ℕ) (session list₀ : List ℕ) where
 
         -- it is taken
         pub one-more : (b : Bytes (drop place session)) (x : Step) (n : ℕ) → decode (drop place session) ≡ Record x n → 3 * taken + 3 ≤ length list₀
-            → (a : Reply) (st′ t′ list′ : List ℕ) → Steps (λ s. step s x) st t a st′ t′ → list′ ≡ sets list (3 * taken) (a .code ∷ a .a ∷ a .b ∷ [])
+            → (a : Reply) (st′ t′ list′ : List ℕ) → Refines (λ s. step s x) st t a st′ t′ → list′ ≡ sets list (3 * taken) (a .code ∷ a .a ∷ a .b ∷ [])
             → Running whole-run left session list₀ (taken + 1) (place + n) st′ t′ list′
         unfolding run-from
         one-more b x n e room a st′ t′ list′ g p =

@@ -27,7 +27,7 @@ use Rattle.players.specs.Regions.{region, joined}
 use Rattle.players.specs.Table.{the-owners, the-epochs, the-held, the-guards, the-versions, the-values, the-requests, cells, regions, tableOf}
 use Rattle.players.proofs.Regions.{region-at, made-put, made-set}
 use Rattle.players.proofs.Tables.{made-of, owners-of, epochs-of, held-of, guards-of, versions-of, values-of, requests-of}
-use Rattle.steps.specs.Calls.{live-guard, hit, added, caching, filled, cleared}
+use Rattle.steps.specs.InnerWords.{live-guard, hit, added, caching, filled, cleared}
 use Rattle.steps.proofs.RunLaws.{run, run-listed, cells-at, same-cells, set-cells, run-cells, put-part, keep-part}
 use Rattle.steps.proofs.TableLaws.{made-fill}
 

@@ -11,8 +11,9 @@ use borrow.Rule.Slice.PartMut.{putMid}
 use Rattle.store.specs.declared.Reply.{Reply}
 use Rattle.store.specs.Model.{Store, bad-range, one-tablet, guarded, commits, committed}
 use Rattle.store.specs.Table.{storeOf, tableOf as store-table}
-use Rattle.store.specs.Calls.{Result as StoreResult, Done as StoreDone, Steps as StoreSteps, encoded as store-encoded, reply, result, refusal as refused-store, outcome, install, read, commit, split, merge, restart}
+use Rattle.store.specs.Calls.{Result as StoreResult, Done as StoreDone, Refines as StoreRefines, encoded as store-encoded, reply, result, refusal as refused-store, outcome, install, read, commit, split, merge, restart}
 use Rattle.requests.specs.declared.Request.{Request}
+use Rattle.requests.specs.declared.Fit.the-variants.{Undelivered}
 use Rattle.requests.specs.declared.Found.the-variants.{At, Nowhere}
 use Rattle.requests.specs.Model.{is-guard-request, is-read, drop-request, change-request, mark-delivered}
 use Rattle.requests.specs.Region.{regionOf, request-holds}
@@ -29,7 +30,7 @@ use Rattle.players.specs.Table.{players-words, last-word, request-words, stateO
 use Rattle.players.specs.Calls.{left, encoded, whole}
 use Rattle.players.proofs.CallLaws.{same-tables}
 use Rattle.players.proofs.Tables.{rules, valid-store-words, valid-players-words, ok-tables, players-table-back}
-use Rattle.steps.specs.StoreCalls.{Shifts, Acts, performed, settled-words}
+use Rattle.steps.specs.InnerStore.{Shifts, Acts, performed, settled-words}
 use Rattle.steps.proofs.StateLaws.{requests-put}
 
 -- ---- the store's part of a state
@@ -54,7 +55,7 @@ on-store s x = record { state = with-store s (x .store); reply = x .reply }
 
 -- the store's words, by the call's contract
 module _ (g : State → Result) (f : Store → StoreResult) (st : List ℕ) (r : Reply) (st′ : List ℕ) where
-  pub shifts : length st ≡ 1280 → ((s : State) → g s ≡ on-store s (f (s .store))) → StoreSteps f st r st′ → Shifts g st r st′
+  pub shifts : length st ≡ 1280 → ((s : State) → g s ≡ on-store s (f (s .store))) → StoreRefines f st r st′ → Shifts g st r st′
   shifts ls h x =
       record {
         shifted =
@@ -83,33 +84,33 @@ pub restart-is : (e : ℕ) (s : State) → step s (RestartTablet e) ≡ on-store
 restart-is e s = refl
 
 module _ (st : List ℕ) (ls : length st ≡ 1280) (e : ℕ) (r : Reply) (st′ : List ℕ) where
-  pub split-shifts : StoreSteps (split e) st r st′ → Shifts (λ s. step s (Split e)) st r st′
+  pub split-shifts : StoreRefines (split e) st r st′ → Shifts (λ s. step s (Split e)) st r st′
   split-shifts x = shifts (λ s. step s (Split e)) (split e) st r st′ ls (split-is e) x
 
-  pub merge-shifts : StoreSteps (merge e) st r st′ → Shifts (λ s. step s (Merge e)) st r st′
+  pub merge-shifts : StoreRefines (merge e) st r st′ → Shifts (λ s. step s (Merge e)) st r st′
   merge-shifts x = shifts (λ s. step s (Merge e)) (merge e) st r st′ ls (merge-is e) x
 
-  pub restart-shifts : StoreSteps (restart e) st r st′ → Shifts (λ s. step s (RestartTablet e)) st r st′
+  pub restart-shifts : StoreRefines (restart e) st r st′ → Shifts (λ s. step s (RestartTablet e)) st r st′
   restart-shifts x = shifts (λ s. step s (RestartTablet e)) (restart e) st r st′ ls (restart-is e) x
 
 -- ---- 6 deliver: the store's part
 
-same-steps : (f g : Store → StoreResult) (st : List ℕ) (y : Reply) (st′ : List ℕ) → ((z : Store) → f z ≡ g z) → StoreSteps f st y st′ → StoreSteps g st y st′
-same-steps f g st y st′ h x = record { wrong = x .wrong; right = λ n l v. x .right n l v ∙ ap store-encoded (h (storeOf st)) }
+same-refines : (f g : Store → StoreResult) (st : List ℕ) (y : Reply) (st′ : List ℕ) → ((z : Store) → f z ≡ g z) → StoreRefines f st y st′ → StoreRefines g st y st′
+same-refines f g st y st′ h x = record { wrong = x .wrong; right = λ n l v. x .right n l v ∙ ap store-encoded (h (storeOf st)) }
 
 module _ (r : Request) (st : List ℕ) (y : Reply) (st′ : List ℕ) where
-  pub perform-guard-request : r .kind ≡ 3 → StoreSteps (install (record { low = r .low; high = r .high }) (r .serial)) st y st′ → StoreSteps (performed r) st y st′
+  pub perform-guard-request : r .kind ≡ 3 → StoreRefines (install (record { low = r .low; high = r .high }) (r .serial)) st y st′ → StoreRefines (performed r) st y st′
   unfolding performed
-  perform-guard-request k x = same-steps (install (record { low = r .low; high = r .high }) (r .serial)) (performed r) st y st′ (λ z. rw (eq-eqb (r .kind) 3 k)) x
+  perform-guard-request k x = same-refines (install (record { low = r .low; high = r .high }) (r .serial)) (performed r) st y st′ (λ z. rw (eq-eqb (r .kind) 3 k)) x
 
   module _ (k : r .kind ≡ 3 → ⊥) where
-    pub perform-read : r .kind ≡ 4 → StoreSteps (read (r .low)) st y st′ → StoreSteps (performed r) st y st′
+    pub perform-read : r .kind ≡ 4 → StoreRefines (read (r .low)) st y st′ → StoreRefines (performed r) st y st′
     unfolding performed
-    perform-read j x = same-steps (read (r .low)) (performed r) st y st′ (λ z. rw (ne-eqb (r .kind) 3 k, eq-eqb (r .kind) 4 j)) x
+    perform-read j x = same-refines (read (r .low)) (performed r) st y st′ (λ z. rw (ne-eqb (r .kind) 3 k, eq-eqb (r .kind) 4 j)) x
 
-    pub perform-write : (r .kind ≡ 4 → ⊥) → StoreSteps (commit (r .low) (r .value) (r .serial) (r .guard)) st y st′ → StoreSteps (performed r) st y st′
+    pub perform-write : (r .kind ≡ 4 → ⊥) → StoreRefines (commit (r .low) (r .value) (r .serial) (r .guard)) st y st′ → StoreRefines (performed r) st y st′
     unfolding performed
-    perform-write j x = same-steps (commit (r .low) (r .value) (r .serial) (r .guard)) (performed r) st y st′ (λ z. rw (ne-eqb (r .kind) 3 k, ne-eqb (r .kind) 4 j)) x
+    perform-write j x = same-refines (commit (r .low) (r .value) (r .serial) (r .guard)) (performed r) st y st′ (λ z. rw (ne-eqb (r .kind) 3 k, ne-eqb (r .kind) 4 j)) x
 
 module _ (s : State) (r : Request) where
   -- the request settled by what the store's call gives
@@ -157,9 +158,6 @@ one-region false u v ds cs p q = q
 
 -- ---- 6 deliver: both tables
 
-not-yet : {A : Type 0} (b : Bool) (x y : A) → b ≡ false → cond (not b) x y ≡ x
-not-yet b x y e = rw e
-
 module _ (st t : List ℕ) (ls : length st ≡ 1280) (l : length t ≡ players-words) where
   is-whole : whole st t ≡ true
   is-whole = rw (eq-eqb (length st) 1280 ls, eq-eqb (length t) players-words l)
@@ -172,37 +170,32 @@ module _ (st t : List ℕ) (ls : length st ≡ 1280) (l : length t ≡ players-w
   stays = record { state = stateOf st t; reply = refusal no-such-request }
 
   module _ (n : ℕ) where
-    pub deliver-nowhere : Nowhere ≡ found n (take 768 (drop 8705 t)) → Acts (λ s. step s (Deliver n)) st t (refusal no-such-request) st t
-    deliver-nowhere e =
+    pub deliver-unfit : Nowhere ≡ found Undelivered n (take 768 (drop 8705 t)) → Acts (λ s. step s (Deliver n)) st t (refusal no-such-request) st t
+    deliver-unfit e =
         record {
           acted =
               λ v.
               let s = stateOf st t in
               let k = ok-tables st t v ls l in
-              let f = nowhere-region (s .last) (s .requests) (k .few) (k .requests) (λ r. not (r .delivered)) n stays (deliver s) (e ∙ ap (found n) (words-are v)) in
+              let f = nowhere-region (s .last) (s .requests) (k .few) (k .requests) Undelivered n stays (deliver s) (e ∙ ap (found Undelivered n) (words-are v)) in
               sym (ap encoded f ∙ same-tables st t is-whole v (refusal no-such-request));
         }
 
-    module _ (k : ℕ) (r : Request) (e : At k r ≡ found n (take 768 (drop 8705 t))) where
+    module _ (k : ℕ) (r : Request) (e : At k r ≡ found Undelivered n (take 768 (drop 8705 t))) where
       module _ (v : T (valid st t)) where
-        deliver-found : step (stateOf st t) (Deliver n) ≡ cond (not (r .delivered)) (deliver (stateOf st t) r) stays
-        deliver-found =
-            let s = stateOf st t in
-            let o = ok-tables st t v ls l in
-            found-region (s .last) (s .requests) (o .few) (o .requests) n k r (e ∙ ap (found n) (words-are v)) (λ r. not (r .delivered)) stays (deliver s)
-
         it-stands : Stands r k (stateOf st t .requests)
         it-stands =
             let s = stateOf st t in
             let o = ok-tables st t v ls l in
-            found-stands (s .last) (s .requests) (o .few) (o .requests) n k r (e ∙ ap (found n) (words-are v))
+            found-stands (s .last) (s .requests) (o .few) (o .requests) Undelivered n k r (e ∙ ap (found Undelivered n) (words-are v))
 
-        deliver-found-is : r .delivered ≡ false → step (stateOf st t) (Deliver n) ≡ by-outcome (stateOf st t) r (performed r (stateOf st t .store))
-        deliver-found-is d =
+        deliver-found : step (stateOf st t) (Deliver n) ≡ by-outcome (stateOf st t) r (performed r (stateOf st t .store))
+        deliver-found =
             let s = stateOf st t in
             let o = ok-tables st t v ls l in
             let h = each-at _ 0 (s .requests) (o .requests) r (stands-in it-stands) in
-            deliver-found ∙ not-yet (r .delivered) _ _ d ∙ deliver-is s r (good-range (s .last) r h)
+            found-region (s .last) (s .requests) (o .few) (o .requests) Undelivered n k r (e ∙ ap (found Undelivered n) (words-are v)) stays (deliver s)
+            ∙ deliver-is s r (good-range (s .last) r h)
 
         settled-table : (a b : ℕ) (x : Store) → settled-words k (r .abandoned) a b t ≡ tableOf (settled (stateOf st t) r x a b .state)
         unfolding settled-words
@@ -219,12 +212,9 @@ module _ (st t : List ℕ) (ls : length st ≡ 1280) (l : length t ≡ players-w
             ∙ requests-put s (regionOf rs) rs refl
             ∙ sym (same-players (with-requests s rs) x)
 
-      pub deliver-unfit : r .delivered ≡ true → Acts (λ s. step s (Deliver n)) st t (refusal no-such-request) st t
-      deliver-unfit d = record { acted = λ v. sym (ap encoded (deliver-found v ∙ rw d) ∙ same-tables st t is-whole v (refusal no-such-request)) }
-
-      pub deliver-fit : r .delivered ≡ false → (y x : Reply) (st′ t′ : List ℕ) → StoreSteps (performed r) st y st′ → t′ ≡ settled-words k (r .abandoned) (y .a) (y .b) t → x ≡ done
+      pub deliver-fit : (y x : Reply) (st′ t′ : List ℕ) → StoreRefines (performed r) st y st′ → t′ ≡ settled-words k (r .abandoned) (y .a) (y .b) t → x ≡ done
           → Acts (λ s. step s (Deliver n)) st t x st′ t′
-      deliver-fit d y x st′ t′ q et ex =
+      deliver-fit y x st′ t′ q et ex =
           record {
             acted =
                 λ v.
@@ -234,5 +224,5 @@ module _ (st t : List ℕ) (ls : length st ≡ 1280) (l : length t ≡ players-w
                 let ey : y ≡ p .reply = ap (λ (u : StoreDone). u .reply) f in
                 let es : st′ ≡ store-table (p .store) = ap (λ (u : StoreDone). u .table) f in
                 left-is ex es (et ∙ ap (λ (u : Reply). settled-words k (r .abandoned) (u .a) (u .b) t) ey ∙ settled-table v (p .reply .a) (p .reply .b) (p .store))
-                ∙ sym (ap encoded (deliver-found-is v d));
+                ∙ sym (ap encoded (deliver-found v));
           }

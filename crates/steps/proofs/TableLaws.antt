@@ -8,7 +8,7 @@ use lib.Dec.{T, ltb}
 use lib.ListN.{length, getD, set}
 use Rattle.players.specs.Regions.{width, offset}
 use Rattle.players.proofs.Regions.{Made, made-inside, made-change, width-at}
-use Rattle.steps.specs.Calls.{filled}
+use Rattle.steps.specs.InnerWords.{filled}
 use Rattle.steps.proofs.RunLaws.{run, length-run, filled-region}
 
 module _ {ns : List ℕ} {rs : List (List ℕ)} {t : List ℕ} (m : Made ns rs t) where

@@ -11,7 +11,7 @@ use lib.ListN.{length, getD, take, drop, set, replicate, length-drop, length-rep
 use lib.Seq.{length-take-le}
 use borrow.Author.Tests.{eq-eqb, ne-eqb, lt-ltb, le-ltb}
 use borrow.Rule.Slice.PartMut.{putMid, same-len-mid}
-use Rattle.steps.specs.Calls.{live-guard, hit, all-are, caching, filled, cleared, dropped}
+use Rattle.steps.specs.InnerWords.{live-guard, hit, all-are, caching, filled, cleared, dropped}
 use Rattle.players.specs.Table.{players-words}
 
 -- ---- what is read

@@ -1,5 +1,8 @@
--- The steps on lent tables: what a step does to them, and the words that its code reads and writes (Calls, RespondCalls, StoreCalls).
-pub mod Calls
-pub mod RespondCalls
-pub mod StoreCalls
+-- What a run does to the two tables and to the list for replies (RunCalls). What only private functions do stands apart: the words of the
+-- players' table that they read and write (InnerWords), step 7 (InnerRespond), the steps on the store's table and step 6 (InnerStore), and
+-- what a run that is not refused is given (InnerRun). What `steps::step` does is in players, specs/Calls.
 pub mod RunCalls
+pub mod InnerWords
+pub mod InnerRespond
+pub mod InnerStore
+pub mod InnerRun

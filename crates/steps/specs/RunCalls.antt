@@ -1,10 +1,9 @@
 -- What a run does to the two tables and to the list for replies. Quoted words are document 01's.
 -- Assumes nothing.
-use mathlib.Core.Path.{_≡_}
-use mathlib.Core.Bool.{true, cond}
+use mathlib.Core.Bool.{cond}
 use mathlib.Core.List.{List, [], _∷_}
-use Prim.Native.Nat.{ℕ, zero, suc, _+_, _*_, _≤_}
-use lib.Dec.{T, ltb}
+use Prim.Native.Nat.{ℕ, zero, suc, _+_, _*_}
+use lib.Dec.{ltb}
 use lib.ListN.{length, getD}
 use Rattle.store.specs.Table.{tableOf as store-table}
 use Rattle.store.specs.declared.Reply.{Reply}
@@ -13,7 +12,7 @@ use Rattle.players.specs.Table.{stateOf, tableOf, valid}
 use Rattle.players.specs.Calls.{whole}
 use Rattle.session.specs.declared.Report.{Report}
 use Rattle.session.specs.Mark.{marked}
-use Rattle.session.specs.Runs.{report, Run, no-mark, too-long, longest, run-marked, whole-places, filled}
+use Rattle.session.specs.Runs.{report, Run, no-mark, too-long, longest, run-marked, reply-words, whole-places, filled}
 
 -- a report, and the list and the two tables after it
 pub record Finished : Type 0 where
@@ -40,21 +39,13 @@ ran st t session budget list =
     (refused 22))
     (refused 21)
 
--- ---- what a run that is not refused is given
-
-pub record Ready (st t session : List ℕ) (left : ℕ) (list : List ℕ) : Type 0 where
-  pub lengths : whole st t ≡ true
-  pub keeps : T (valid st t)
-  pub marked : 4 ≤ length session
-  pub short : length session ≤ longest
-  pub room : 3 * left ≤ length list
-  pub few : left ≤ 4294967295
-
 -- ---- the replies that stand in a list for them
 
--- in the i-th place, counted from 0: "three 32-bit numbers each"
+-- in the i-th place, counted from 0
 abbrev pub reply-at : List ℕ → ℕ → Reply
-reply-at list i = reply (getD list (3 * i) 0) (getD list (3 * i + 1) 0) (getD list (3 * i + 2) 0)
+reply-at list i =
+    let at = reply-words * i in
+    reply (getD list at 0) (getD list (at + 1) 0) (getD list (at + 2) 0)
 
 -- in n places, from the i-th on
 unfoldable pub replies-from : List ℕ → ℕ → ℕ → List Reply

@@ -4,7 +4,7 @@ use store::words;
 ghost use mathlib.Core.Path.{_≡_};
 ghost use Prim.Native.Nat.{_+_, _-_, _*_, _≤_, _<_};
 ghost use lib.ListN.{length};
-ghost use Rattle.steps.specs.Calls.{live-guard, hit, all-are, caching, cleared, dropped};
+ghost use Rattle.steps.specs.InnerWords.{live-guard, hit, all-are, caching, cleared, dropped};
 ghost use Rattle.players.specs.Table.{players-words};
 
 // The guard that the player holds for the entry if it is live, else 0.

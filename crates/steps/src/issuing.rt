@@ -1,21 +1,22 @@
 // Steps 3, 4 and 5: requests that are issued. The length of the players' table is known; its rules are not tested.
 use crate::cells;
 use crate::issued;
-use crate::refuse;
 use players::layout;
+use requests::Look;
 use requests::Request;
 use requests::kinds;
 use requests::region;
 use store::Range;
 use store::Reply;
 use store::codes;
+use store::refuse;
 ghost use mathlib.Core.Path.{_≡_};
 ghost use lib.ListN.{length};
 ghost use mathlib.Core.Bool.{false};
 ghost use Rattle.requests.specs.Model.{new-request};
 ghost use Rattle.players.specs.declared.Step.the-variants.{Read, RequestGuard, Write};
 ghost use Rattle.players.specs.Rules.{step};
-ghost use Rattle.steps.specs.Calls.{Moves, added};
+ghost use Rattle.steps.specs.InnerWords.{Moves, added};
 ghost use Rattle.players.specs.Table.{players-words};
 
 // Adds a request at place `k`, the first that is not used; its serial is the last one issued.
@@ -99,10 +100,9 @@ pub(crate) fn request_guard(players: &mut [u32], player: u8, range: Range) -> Re
     ) {
         return refuse(codes::NOT_OWNER);
     }
-    let scan = region::scan_requests(
-        &players[layout::REQUESTS..layout::REQUESTS_END],
-        player,
-        range,
+    let scan = region::scan(
+        &mut players[layout::REQUESTS..layout::REQUESTS_END],
+        Look::Requesting { player, range },
     );
     if scan.hit {
         return refuse(codes::ALREADY_REQUESTED);
@@ -144,10 +144,9 @@ pub(crate) fn read(players: &mut [u32], player: u8, entry: u8) -> Reply
         return refuse(codes::NO_SERIAL_LEFT);
     }
     let guard = cells::live_guard(players, player, entry);
-    let scan = region::scan_writes(
-        &players[layout::REQUESTS..layout::REQUESTS_END],
-        player,
-        entry,
+    let scan = region::scan(
+        &mut players[layout::REQUESTS..layout::REQUESTS_END],
+        Look::Writing { player, entry },
     );
     add(
         players,
@@ -181,10 +180,9 @@ pub(crate) fn write(players: &mut [u32], player: u8, entry: u8, value: u32) -> R
         return refuse(codes::NO_SERIAL_LEFT);
     }
     cells::cache(players, player as usize * layout::ENTRIES + e, 0, 0, 0);
-    let scan = region::cross(
+    let scan = region::scan(
         &mut players[layout::REQUESTS..layout::REQUESTS_END],
-        player,
-        entry,
+        Look::Crossing { player, entry },
     );
     add(
         players,

@@ -1,17 +1,19 @@
 // Steps 8, 9 and 13: requests that are given up, or lost. The length of the players' table is known; its rules are not tested.
 use crate::cells;
-use crate::refuse;
 use players::layout;
+use requests::Fit;
 use requests::Found;
 use requests::kinds;
 use requests::region;
 use store::Reply;
 use store::codes;
+use store::done;
+use store::refuse;
 ghost use mathlib.Core.Path.{_≡_};
 ghost use lib.ListN.{length};
 ghost use Rattle.players.specs.declared.Step.the-variants.{Abandon, Lose, RestartPlayer};
 ghost use Rattle.players.specs.Rules.{step};
-ghost use Rattle.steps.specs.Calls.{Moves, giving-up};
+ghost use Rattle.steps.specs.InnerWords.{Moves, giving-up};
 ghost use Rattle.players.specs.Table.{players-words};
 
 // The request of place `k` leaves if it is delivered, and is abandoned if not.
@@ -31,19 +33,20 @@ pub(crate) fn abandon(players: &mut [u32], serial: u32) -> Reply
     requires { ⌜ length (now players) ≡ players-words ⌝ }
     ensures { λ r. ⌜ Moves (λ s. step s (Abandon serial)) (now (players .entry)) r (now (players .exit)) ⌝ }
 {
-    let found = region::find(&players[layout::REQUESTS..layout::REQUESTS_END], serial);
+    let found = region::find(
+        &players[layout::REQUESTS..layout::REQUESTS_END],
+        serial,
+        Fit::Pending,
+    );
     match found {
         Found::Nowhere => refuse(codes::NO_SUCH_REQUEST),
         Found::At { place, request } => {
-            if request.abandoned {
-                return refuse(codes::NO_SUCH_REQUEST);
-            }
             give_up(players, place, request.delivered);
             if request.kind != kinds::WRITE {
-                return refuse(codes::DONE);
+                return done();
             }
             cells::drop_guard(players, request.player, request.guard);
-            refuse(codes::DONE)
+            done()
         }
     }
 }
@@ -53,15 +56,16 @@ pub(crate) fn lose(players: &mut [u32], serial: u32) -> Reply
     requires { ⌜ length (now players) ≡ players-words ⌝ }
     ensures { λ r. ⌜ Moves (λ s. step s (Lose serial)) (now (players .entry)) r (now (players .exit)) ⌝ }
 {
-    let found = region::find(&players[layout::REQUESTS..layout::REQUESTS_END], serial);
+    let found = region::find(
+        &players[layout::REQUESTS..layout::REQUESTS_END],
+        serial,
+        Fit::Abandoned,
+    );
     match found {
         Found::Nowhere => refuse(codes::NO_SUCH_REQUEST),
         Found::At { place, request } => {
-            if !request.abandoned {
-                return refuse(codes::NO_SUCH_REQUEST);
-            }
             region::remove(&mut players[layout::REQUESTS..layout::REQUESTS_END], place);
-            refuse(codes::DONE)
+            done()
         }
     }
 }
@@ -77,5 +81,5 @@ pub(crate) fn restart_player(players: &mut [u32], player: u8) -> Reply
     let i = player as usize * layout::ENTRIES;
     cells::clear(players, i, i + 256);
     region::restart(&mut players[layout::REQUESTS..layout::REQUESTS_END], player);
-    refuse(codes::DONE)
+    done()
 }

@@ -11,17 +11,11 @@ use players::Step;
 use players::layout;
 use store::Reply;
 use store::codes;
+use store::refuse;
 ghost use mathlib.Core.Path.{_≡_};
-ghost use Rattle.players.specs.Replies.{refusal, issued};
+ghost use Rattle.players.specs.Replies.{issued};
 ghost use Rattle.players.specs.Rules.{step};
-ghost use Rattle.players.specs.Calls.{left, called, Steps};
-
-// A reply that is a code alone: a refusal, or 0 for done.
-fn refuse(code: u32) -> Reply
-    ensures { λ r. ⌜ r ≡ refusal code ⌝ }
-{
-    Reply { code, a: 0, b: 0 }
-}
+ghost use Rattle.players.specs.Calls.{left, called, Refines};
 
 // The reply of a step that takes a serial.
 fn issued(serial: u32) -> Reply
@@ -35,8 +29,8 @@ fn issued(serial: u32) -> Reply
 }
 
 // A step on tables that are known to keep the rules: their lengths alone are tested.
-pub(crate) fn take(store: &mut [u32], players: &mut [u32], next: Step) -> Reply
-    ensures { λ r. ⌜ Steps (λ s. step s next) (now (store .entry)) (now (players .entry)) r (now (store .exit)) (now (players .exit)) ⌝ }
+pub(crate) fn apply(store: &mut [u32], players: &mut [u32], next: Step) -> Reply
+    ensures { λ r. ⌜ Refines (λ s. step s next) (now (store .entry)) (now (players .entry)) r (now (store .exit)) (now (players .exit)) ⌝ }
 {
     if store.len() != store::layout::WORDS {
         return refuse(codes::WRONG_LENGTH);
@@ -73,5 +67,5 @@ pub fn step(store: &mut [u32], players: &mut [u32], next: Step) -> Reply
     if tested.code != 0 {
         return tested;
     }
-    take(store, players, next)
+    apply(store, players, next)
 }

@@ -1,16 +1,16 @@
 // Steps 1 and 2: who owns the entries. The length of the players' table is known; its rules are not tested.
 use crate::issued;
-use crate::refuse;
 use players::layout;
 use store::Range;
 use store::Reply;
 use store::codes;
+use store::refuse;
 use store::words;
 ghost use mathlib.Core.Path.{_≡_};
 ghost use lib.ListN.{length};
 ghost use Rattle.players.specs.declared.Step.the-variants.{Assign, Release};
 ghost use Rattle.players.specs.Rules.{step};
-ghost use Rattle.steps.specs.Calls.{Moves, own};
+ghost use Rattle.steps.specs.InnerWords.{Moves, own};
 ghost use Rattle.players.specs.Table.{players-words};
 
 // A serial is taken; owner (8 for nobody) and epoch are set over the range.

@@ -1,21 +1,22 @@
 // Step 7: responses that reach the player. The length of the players' table is known; its rules are not tested.
 use crate::cells;
-use crate::refuse;
 use players::layout;
+use requests::Fit;
 use requests::Found;
 use requests::Request;
 use requests::kinds;
 use requests::region;
 use store::Reply;
 use store::codes;
+use store::refuse;
 use store::words;
 ghost use mathlib.Core.Path.{_≡_};
 ghost use Prim.Native.Nat.{_≤_, _<_};
 ghost use lib.ListN.{length};
 ghost use Rattle.players.specs.declared.Step.the-variants.{Respond};
 ghost use Rattle.players.specs.Rules.{respond, respond-guard-request, respond-read, respond-write, step};
-ghost use Rattle.steps.specs.Calls.{Moves, filled};
-ghost use Rattle.steps.specs.RespondCalls.{Responds, still-owning, remembering};
+ghost use Rattle.steps.specs.InnerWords.{Moves, filled};
+ghost use Rattle.steps.specs.InnerRespond.{Responds, still-owning, remembering};
 ghost use Rattle.players.specs.Table.{players-words};
 
 // Whether the player owns each entry from `low` up to `high` with an epoch below the serial; false where that is no range.
@@ -179,16 +180,14 @@ pub(crate) fn respond(players: &mut [u32], serial: u32) -> Reply
     requires { ⌜ length (now players) ≡ players-words ⌝ }
     ensures { λ r. ⌜ Moves (λ s. step s (Respond serial)) (now (players .entry)) r (now (players .exit)) ⌝ }
 {
-    let found = region::find(&players[layout::REQUESTS..layout::REQUESTS_END], serial);
+    let found = region::find(
+        &players[layout::REQUESTS..layout::REQUESTS_END],
+        serial,
+        Fit::Answerable,
+    );
     match found {
         Found::Nowhere => refuse(codes::NO_SUCH_REQUEST),
         Found::At { place, request } => {
-            if !request.delivered {
-                return refuse(codes::NO_SUCH_REQUEST);
-            }
-            if request.abandoned {
-                return refuse(codes::NO_SUCH_REQUEST);
-            }
             region::remove(&mut players[layout::REQUESTS..layout::REQUESTS_END], place);
             respond_to(players, request)
         }

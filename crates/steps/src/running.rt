@@ -1,6 +1,9 @@
 // A run over a session, on lent tables.
 use session::Decoded;
 use session::Report;
+use session::codes;
+use session::mark;
+use session::sizes;
 use store::Reply;
 ghost use mathlib.Core.Path.{_≡_};
 ghost use mathlib.Core.List.{[], _∷_};
@@ -8,12 +11,14 @@ ghost use Prim.Native.Nat.{_+_, _≤_};
 ghost use lib.ListN.{length, drop};
 ghost use lib.Seq.{sets};
 ghost use Rattle.players.specs.Table.{stateOf};
-ghost use Rattle.session.specs.Runs.{report, allowed, run-from};
-ghost use Rattle.steps.specs.RunCalls.{finished, encoded, ran, Ready};
+ghost use Rattle.session.specs.Mark.{mark};
+ghost use Rattle.session.specs.Runs.{report, allowed, run-from, reply-words};
+ghost use Rattle.steps.specs.RunCalls.{finished, encoded, ran};
+ghost use Rattle.steps.specs.InnerRun.{Ready};
 
 // Puts a reply into three places of the list.
 fn put_reply(list: &mut [u32], at: usize, reply: Reply)
-    requires { ⌜ at + 3 ≤ length (now list) ⌝ }
+    requires { ⌜ at + reply-words ≤ length (now list) ⌝ }
     ensures { λ _. ⌜ now (list .exit) ≡ sets (now (list .entry)) at (reply .code ∷ reply .a ∷ reply .b ∷ []) ⌝ }
 {
     list[at] = reply.code;
@@ -45,7 +50,7 @@ fn stopped(why: u32, taken: usize, place: usize) -> Report
 }
 
 // Takes at most `left` records, from the byte after the mark on.
-fn take(
+fn take_records(
     store: &mut [u32],
     players: &mut [u32],
     session: &[u8],
@@ -53,21 +58,21 @@ fn take(
     replies: &mut [u32],
 ) -> Report
     requires { ⌜ Ready (now store) (now players) (now session) left (now replies) ⌝ }
-    ensures { λ r. ⌜ finished r (now (replies .exit)) (now (store .exit)) (now (players .exit)) ≡ encoded (now (replies .entry)) (run-from left (stateOf (now (store .entry)) (now (players .entry))) 4 (drop 4 (now (session .entry)))) ⌝ }
+    ensures { λ r. ⌜ finished r (now (replies .exit)) (now (store .exit)) (now (players .exit)) ≡ encoded (now (replies .entry)) (run-from left (stateOf (now (store .entry)) (now (players .entry))) (length mark) (drop (length mark) (now (session .entry)))) ⌝ }
 {
-    let mut place: usize = 4;
+    let mut place: usize = mark::LENGTH;
     let mut taken: usize = 0;
     while place != session.len() {
         if left <= taken {
-            return stopped(9, taken, place);
+            return stopped(codes::SPENT, taken, place);
         }
         let found = session::records::decode(&session[place..]);
         // The copy is read field by field; found itself would be read in wider pieces than it was written in, and wait for them.
         let decoded = found;
         match decoded {
             Decoded::Record { step, length } => {
-                let reply = crate::take(store, players, step);
-                put_reply(replies, 3 * taken, reply);
+                let reply = crate::apply(store, players, step);
+                put_reply(replies, sizes::REPLY * taken, reply);
                 place += length;
                 taken += 1;
             }
@@ -76,7 +81,7 @@ fn take(
             }
         }
     }
-    stopped(0, taken, place)
+    stopped(codes::AT_END, taken, place)
 }
 
 // A run: tables, session, a budget of records and a list for replies, of three numbers each.
@@ -93,13 +98,13 @@ pub fn run(
     if tested.code != 0 {
         return stopped(tested.code, 0, 0);
     }
-    if 16384 < session.len() {
-        return stopped(37, 0, 0);
+    if sizes::LONGEST < session.len() {
+        return stopped(codes::TOO_LONG, 0, 0);
     }
-    if session::mark::marked(session) {
-        let left = allowed(budget, replies.len() / 3);
-        take(store, players, session, left, replies)
+    if mark::marked(session) {
+        let left = allowed(budget, replies.len() / sizes::REPLY);
+        take_records(store, players, session, left, replies)
     } else {
-        stopped(23, 0, 0)
+        stopped(codes::NO_MARK, 0, 0)
     }
 }

@@ -1,6 +1,6 @@
 // The steps that read or write the store's table. The tables' lengths are known; their rules are not tested.
-use crate::refuse;
 use players::layout;
+use requests::Fit;
 use requests::Found;
 use requests::Request;
 use requests::kinds;
@@ -8,12 +8,14 @@ use requests::region;
 use store::Range;
 use store::Reply;
 use store::codes;
+use store::done;
+use store::refuse;
 ghost use mathlib.Core.Path.{_≡_};
 ghost use lib.ListN.{length};
-ghost use Rattle.store.specs.Calls.{Steps};
+ghost use Rattle.store.specs.Calls.{Refines};
 ghost use Rattle.players.specs.Rules.{step};
 ghost use Rattle.players.specs.declared.Step.the-variants.{Deliver, Split, Merge, RestartTablet};
-ghost use Rattle.steps.specs.StoreCalls.{Shifts, Acts, performed, settled-words};
+ghost use Rattle.steps.specs.InnerStore.{Shifts, Acts, performed, settled-words};
 ghost use Rattle.players.specs.Table.{players-words};
 
 // Step 10: a boundary before the entry.
@@ -21,7 +23,7 @@ pub(crate) fn split(store: &mut [u32], entry: u8) -> Reply
     requires { ⌜ length (now store) ≡ 1280 ⌝ }
     ensures { λ r. ⌜ Shifts (λ s. step s (Split entry)) (now (store .entry)) r (now (store .exit)) ⌝ }
 {
-    store::steps::split(store, entry)
+    store::unchecked::split(store, entry)
 }
 
 // Step 11: the boundary before the entry removed.
@@ -29,7 +31,7 @@ pub(crate) fn merge(store: &mut [u32], entry: u8) -> Reply
     requires { ⌜ length (now store) ≡ 1280 ⌝ }
     ensures { λ r. ⌜ Shifts (λ s. step s (Merge entry)) (now (store .entry)) r (now (store .exit)) ⌝ }
 {
-    store::steps::merge(store, entry)
+    store::unchecked::merge(store, entry)
 }
 
 // Step 12: the guards of the tablet that holds the entry become 0.
@@ -37,24 +39,24 @@ pub(crate) fn restart_tablet(store: &mut [u32], entry: u8) -> Reply
     requires { ⌜ length (now store) ≡ 1280 ⌝ }
     ensures { λ r. ⌜ Shifts (λ s. step s (RestartTablet entry)) (now (store .entry)) r (now (store .exit)) ⌝ }
 {
-    store::steps::restart(store, entry)
+    store::unchecked::restart(store, entry)
 }
 
 // What the store does with a request that is delivered. The reply's two numbers are the outcome.
 fn perform(store: &mut [u32], r: Request) -> Reply
-    ensures { λ x. ⌜ Steps (performed r) (now (store .entry)) x (now (store .exit)) ⌝ }
+    ensures { λ x. ⌜ Refines (performed r) (now (store .entry)) x (now (store .exit)) ⌝ }
 {
     if r.kind == kinds::GUARD_REQUEST {
         let range = Range {
             low: r.low,
             high: r.high,
         };
-        return store::steps::install(store, range, r.serial);
+        return store::unchecked::install(store, range, r.serial);
     }
     if r.kind == kinds::READ {
-        return store::steps::read(store, r.low);
+        return store::unchecked::read(store, r.low);
     }
-    store::steps::commit(store, r.low, r.value, r.serial, r.guard)
+    store::unchecked::commit(store, r.low, r.value, r.serial, r.guard)
 }
 
 // The request of place `k` leaves if it is abandoned, else it is delivered with this outcome.
@@ -79,16 +81,17 @@ pub(crate) fn deliver(store: &mut [u32], players: &mut [u32], serial: u32) -> Re
     requires { ⌜ (length (now store) ≡ 1280) × (length (now players) ≡ players-words) ⌝ }
     ensures { λ r. ⌜ Acts (λ s. step s (Deliver serial)) (now (store .entry)) (now (players .entry)) r (now (store .exit)) (now (players .exit)) ⌝ }
 {
-    let found = region::find(&players[layout::REQUESTS..layout::REQUESTS_END], serial);
+    let found = region::find(
+        &players[layout::REQUESTS..layout::REQUESTS_END],
+        serial,
+        Fit::Undelivered,
+    );
     match found {
         Found::Nowhere => refuse(codes::NO_SUCH_REQUEST),
         Found::At { place, request } => {
-            if request.delivered {
-                return refuse(codes::NO_SUCH_REQUEST);
-            }
             let outcome = perform(store, request);
             settle(players, place, request.abandoned, outcome.a, outcome.b);
-            refuse(codes::DONE)
+            done()
         }
     }
 }

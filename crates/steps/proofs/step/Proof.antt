@@ -21,8 +21,8 @@ returns c =
     let a = k .before .before .before .before .before .args in
     refused (a .store .now) (a .players .now) (k .check .result) (k .check .ensures) (λ s. step s (a .next)) (c .if1 .taken)
 
-take-requires : tie.Need-take-requires
-take-requires c κs = search needs
+apply-requires : tie.Need-apply-requires
+apply-requires c κs = search needs
 
 same-length-3 : tie.Need-same-length-3
 same-length-3 c = search needs
@@ -36,7 +36,7 @@ returns-2 c =
     let e = t .before .before .before in
     let k = e .before .before in
     let a = k .before .before .before .before .before .args in
-    finished (a .store .now) (a .players .now) (k .check .result) (k .check .ensures) (e .if1 .left) (λ s. step s (a .next)) _ _ _ (t .take .ensures)
+    finished (a .store .now) (a .players .now) (k .check .result) (k .check .ensures) (e .if1 .left) (λ s. step s (a .next)) _ _ _ (t .apply .ensures)
 
 pub step-spec : {M : Type 1} → statement M
 step-spec =
@@ -46,7 +46,7 @@ step-spec =
     same-length
     same-length-2
     returns
-    take-requires
+    apply-requires
     same-length-3
     same-length-4
     returns-2)

@@ -4,7 +4,7 @@ use mathlib.Core.Path.{_≡_, refl, sym, _∙_}
 use Prim.Native.Nat.{_≤_, _-_}
 use native.Mathlib.Omega.{arith}
 use borrow.Author.Needs.{needs}
-use Rattle.steps.specs.Calls.{all-are}
+use Rattle.steps.specs.InnerWords.{all-are}
 use Rattle.steps.proofs.WordLaws.{all-stop, all-more, all-end}
 use Rattle.steps.proofs.cells.all_are.Statement.{statement}
 use Rattle.steps.proofs.cells.all_are.Tie as tie

@@ -4,7 +4,7 @@ use mathlib.Core.Path.{refl}
 use native.Mathlib.Omega.{arith}
 use lib.ListN.{length-set}
 use borrow.Author.Needs.{needs}
-use Rattle.steps.specs.Calls.{caching}
+use Rattle.steps.specs.InnerWords.{caching}
 use Rattle.steps.proofs.cells.cache.Statement.{statement}
 use Rattle.steps.proofs.cells.cache.Tie as tie
 

@@ -5,7 +5,7 @@ use Prim.Native.Nat.{ℕ, _+_, _≤_, _-_, _*_}
 use native.Mathlib.Nat.{add-zero}
 use native.Mathlib.Omega.{arith}
 use lib.ListN.{length}
-use Rattle.steps.specs.Calls.{dropped}
+use Rattle.steps.specs.InnerWords.{dropped}
 use Rattle.steps.proofs.WordLaws.{drop-more, drop-end}
 use Rattle.steps.proofs.cells.drop_guard.Statement.{statement}
 use Rattle.steps.proofs.cells.drop_guard.Tie as tie

@@ -5,7 +5,7 @@ use native.Mathlib.Omega.{arith}
 use lib.ListN.{set, length-set}
 use borrow.Author.Needs.{needs}
 use borrow.Rule.Slice.PartMut.{putMid}
-use Rattle.steps.specs.Calls.{added}
+use Rattle.steps.specs.InnerWords.{added}
 use Rattle.steps.proofs.issuing.add.Statement.{statement}
 use Rattle.steps.proofs.issuing.add.Tie as tie
 

@@ -3,7 +3,7 @@
 use mathlib.Core.Path.{sym, _∙_}
 use native.Mathlib.Omega.{arith}
 use borrow.Author.Needs.{needs}
-use Rattle.steps.proofs.IssuingLaws.{read-player, read-hit, read-full, read-spent, read-done}
+use Rattle.steps.proofs.IssuingLaws.{read-player, read-hit, read-full, read-spent, next-fits, read-done}
 use Rattle.steps.proofs.issuing.read.Statement.{statement}
 use Rattle.steps.proofs.issuing.read.Tie as tie
 
@@ -90,40 +90,47 @@ returns-4 c =
 live-guard-requires : tie.Need-live-guard-requires
 live-guard-requires c κs = search needs
 
-sub-scan-writes : tie.Need-sub-scan-writes
-sub-scan-writes c = search needs
+sub-scan : tie.Need-sub-scan
+sub-scan c = search needs
 
-part-scan-writes-start : tie.Need-part-scan-writes-start
-part-scan-writes-start c = search needs
+part-scan-start : tie.Need-part-scan-start
+part-scan-start c = search needs
 
-part-scan-writes-end : tie.Need-part-scan-writes-end
-part-scan-writes-end c = search needs
+part-scan-end : tie.Need-part-scan-end
+part-scan-end c = search needs
 
-scan-writes-requires : tie.Need-scan-writes-requires
-scan-writes-requires c κs = search needs
+scan-requires : tie.Need-scan-requires
+scan-requires c κs = search needs
 
 add-for-entry : tie.Need-add-for-entry
-add-for-entry c = search needs
+add-for-entry c = next-fits _ (c .before .before .before .before .before .before .before .if4 .left)
 
 for-entry-requires : tie.Need-for-entry-requires
 for-entry-requires c κs = search needs
 
 add-requires : tie.Need-add-requires
-add-requires c κs = search needs
+add-requires c κs = c .before .before .before .players2 .given .1 ∙ c .before .before .before .before .before .before .before .before .before .before .before .before .before .before .before .before .before .before .before .pre
 
 add-issued : tie.Need-add-issued
-add-issued c = search needs
+add-issued c = next-fits _ (c .before .before .before .before .before .before .before .before .before .before .before .if4 .left)
 
 issued-requires : tie.Need-issued-requires
 issued-requires c κs = search needs
 
 same-length-4 : tie.Need-same-length-4
-same-length-4 c = search needs
+same-length-4 c = c .before .before .before .add .kept .0 ∙ c .before .before .before .before .before .before .before .players2 .given .1
 
 returns-5 : tie.Need-returns-5
 returns-5 c =
-    let a = c .before .before .before .before .before .before .before .before .before .before .before .before .before .before .before .before .before .before .before .before .before .before .args in
-    read-done (a .players .now) (c .before .before .before .before .before .before .before .before .before .before .before .before .before .before .before .before .before .before .before .before .before .before .pre) (a .player) (a .entry) (omega (arith, c .before .before .before .before .before .before .before .before .before .before .before .before .before .before .before .before .before .before .before .before .if1 .left)) (omega (arith, c .before .before .before .before .before .before .before .before .before .before .before .before .before .before .before .before .before .before .before .before .before .before .fits)) (sym (c .before .before .before .before .before .before .before .before .before .before .before .before .before .before .before .before .before .if2 .left) ∙ c .before .before .before .before .before .before .before .before .before .before .before .before .before .before .before .before .before .before .is-hit .ensures) (sym (c .before .before .before .before .before .before .before .before .before .before .before .before .before .if3 .left) ∙ c .before .before .before .before .before .before .before .before .before .before .before .before .before .before .is-full .ensures) (omega (arith, c .before .before .before .before .before .before .before .before .before .before .before .if4 .left)) _ (c .before .before .before .before .before .before .before .before .before .live-guard .ensures) _ (c .before .before .before .before .before .before .scan-writes .ensures) _ (c .before .before .before .before .for-entry .ensures) _ (c .before .before .before .add .ensures) _ (c .issued .ensures)
+    let v = c .before .before .before .before .before .before .before .before .before .before in
+    let e4 = v .before .before in
+    let e3 = e4 .before .before in
+    let e2 = e3 .before .before .before .before in
+    let e1 = e2 .before .before .before in
+    let x = e1 .before .before in
+    let a = x .args in
+    read-done (a .players .now) (x .pre) (a .player) (a .entry) (omega (arith, e1 .if1 .left)) (omega (arith, x .fits)) (sym (e2 .if2 .left) ∙ e2 .before .is-hit .ensures) (sym (e3 .if3 .left) ∙ e3 .before .is-full .ensures) (omega (arith, e4 .if4 .left)) _ (v .live-guard .ensures)
+    _ _ (c .before .before .before .before .before .before .before .before .scan .ensures) _ (c .before .before .before .before .for-entry .ensures) _ (c .before .before .before .add .ensures) _ (c .issued .ensures)
 
 pub read-spec : {M : Type 1} → statement M
 read-spec =
@@ -154,10 +161,10 @@ read-spec =
     same-length-3
     returns-4
     live-guard-requires
-    sub-scan-writes
-    part-scan-writes-start
-    part-scan-writes-end
-    scan-writes-requires
+    sub-scan
+    part-scan-start
+    part-scan-end
+    scan-requires
     add-for-entry
     for-entry-requires
     add-requires

@@ -4,7 +4,7 @@ use mathlib.Core.Path.{sym, _∙_}
 use native.Mathlib.Omega.{arith}
 use borrow.Author.Needs.{needs}
 use borrow.Author.Tests.{not-true, not-false}
-use Rattle.steps.proofs.IssuingLaws.{request-player, request-empty, request-high, request-owner, request-again, request-full, request-spent, request-done}
+use Rattle.steps.proofs.IssuingLaws.{request-player, request-empty, request-high, request-owner, request-again, request-full, request-spent, next-fits, request-done}
 use Rattle.steps.proofs.issuing.request_guard.Statement.{statement}
 use Rattle.steps.proofs.issuing.request_guard.Tie as tie
 
@@ -58,17 +58,17 @@ returns-4 c =
     let a = c .before .before .before .before .before .before .before .before .before .before .args in
     request-owner (a .players .now) (c .before .before .before .before .before .before .before .before .before .before .pre) (a .player) (a .range) (omega arith) (omega arith) (omega arith) (sym (not-true _ (c .before .if4 .taken)) ∙ c .before .before .all-are .ensures) _ (c .refuse4 .ensures)
 
-sub-scan-requests : tie.Need-sub-scan-requests
-sub-scan-requests c = search needs
+sub-scan : tie.Need-sub-scan
+sub-scan c = search needs
 
-part-scan-requests-start : tie.Need-part-scan-requests-start
-part-scan-requests-start c = search needs
+part-scan-start : tie.Need-part-scan-start
+part-scan-start c = search needs
 
-part-scan-requests-end : tie.Need-part-scan-requests-end
-part-scan-requests-end c = search needs
+part-scan-end : tie.Need-part-scan-end
+part-scan-end c = search needs
 
-scan-requests-requires : tie.Need-scan-requests-requires
-scan-requests-requires c κs = search needs
+scan-requires : tie.Need-scan-requires
+scan-requires c κs = search needs
 
 refuse-requires-5 : tie.Need-refuse-requires-5
 refuse-requires-5 c κs = search needs
@@ -78,8 +78,11 @@ same-length-2 c = search needs
 
 returns-5 : tie.Need-returns-5
 returns-5 c =
-    let a = c .before .before .before .before .before .before .before .before .before .before .before .before .before .before .args in
-    request-again (a .players .now) (c .before .before .before .before .before .before .before .before .before .before .before .before .before .before .pre) (a .player) (a .range) (omega arith) (omega arith) (omega arith) (sym (not-false _ (c .before .before .before .before .before .if4 .left)) ∙ c .before .before .before .before .before .before .all-are .ensures) _ (c .before .before .scan-requests .ensures) (c .before .if5 .taken) _ (c .refuse5 .ensures)
+    let s = c .before .before .before .before in
+    let e4 = s .before .before in
+    let x = e4 .before .before .before .before .before .before .before .before .before in
+    let a = x .args in
+    request-again (a .players .now) (x .pre) (a .player) (a .range) (omega arith) (omega arith) (omega arith) (sym (not-false _ (e4 .if4 .left)) ∙ e4 .before .all-are .ensures) _ _ (s .scan .ensures) (c .before .if5 .taken) _ (c .refuse5 .ensures)
 
 refuse-requires-6 : tie.Need-refuse-requires-6
 refuse-requires-6 c κs = search needs
@@ -89,8 +92,11 @@ same-length-3 c = search needs
 
 returns-6 : tie.Need-returns-6
 returns-6 c =
-    let a = c .before .before .before .before .before .before .before .before .before .before .before .before .before .before .before .before .args in
-    request-full (a .players .now) (c .before .before .before .before .before .before .before .before .before .before .before .before .before .before .before .before .pre) (a .player) (a .range) (omega arith) (omega arith) (omega arith) (sym (not-false _ (c .before .before .before .before .before .before .before .if4 .left)) ∙ c .before .before .before .before .before .before .before .before .all-are .ensures) _ (c .before .before .before .before .scan-requests .ensures) (c .before .before .before .if5 .left) (omega arith) _ (c .refuse6 .ensures)
+    let s = c .before .before .before .before .before .before in
+    let e4 = s .before .before in
+    let x = e4 .before .before .before .before .before .before .before .before .before in
+    let a = x .args in
+    request-full (a .players .now) (x .pre) (a .player) (a .range) (omega arith) (omega arith) (omega arith) (sym (not-false _ (e4 .if4 .left)) ∙ e4 .before .all-are .ensures) _ _ (s .scan .ensures) (c .before .before .before .if5 .left) (omega arith) _ (c .refuse6 .ensures)
 
 slice-read-last : tie.Need-slice-read-last
 slice-read-last c = search needs
@@ -103,8 +109,11 @@ same-length-4 c = search needs
 
 returns-7 : tie.Need-returns-7
 returns-7 c =
-    let a = c .before .before .before .before .before .before .before .before .before .before .before .before .before .before .before .before .before .before .args in
-    request-spent (a .players .now) (c .before .before .before .before .before .before .before .before .before .before .before .before .before .before .before .before .before .before .pre) (a .player) (a .range) (omega arith) (omega arith) (omega arith) (sym (not-false _ (c .before .before .before .before .before .before .before .before .before .if4 .left)) ∙ c .before .before .before .before .before .before .before .before .before .before .all-are .ensures) _ (c .before .before .before .before .before .before .scan-requests .ensures) (c .before .before .before .before .before .if5 .left) (omega arith) (omega arith) _ (c .refuse7 .ensures)
+    let s = c .before .before .before .before .before .before .before .before in
+    let e4 = s .before .before in
+    let x = e4 .before .before .before .before .before .before .before .before .before in
+    let a = x .args in
+    request-spent (a .players .now) (x .pre) (a .player) (a .range) (omega arith) (omega arith) (omega arith) (sym (not-false _ (e4 .if4 .left)) ∙ e4 .before .all-are .ensures) _ _ (s .scan .ensures) (c .before .before .before .before .before .if5 .left) (omega arith) (omega arith) _ (c .refuse7 .ensures)
 
 mul-i : tie.Need-mul-i
 mul-i c = search needs
@@ -119,16 +128,16 @@ clear-requires : tie.Need-clear-requires
 clear-requires c κs = search needs
 
 add-for-guard : tie.Need-add-for-guard
-add-for-guard c = search needs
+add-for-guard c = next-fits _ (c .before .before .before .before .before .if7 .left)
 
 for-guard-requires : tie.Need-for-guard-requires
 for-guard-requires c κs = search needs
 
 add-requires : tie.Need-add-requires
-add-requires c κs = search needs
+add-requires c κs = c .before .before .before .before .clear .kept .0 ∙ c .before .before .before .before .before .before .before .before .before .before .before .before .players .given .1 ∙ c .before .before .before .before .before .before .before .before .before .before .before .before .before .before .before .before .before .before .before .before .before .before .before .before .pre
 
 add-issued : tie.Need-add-issued
-add-issued c = search needs
+add-issued c = next-fits _ (c .before .before .before .before .before .before .before .before .before .if7 .left)
 
 issued-requires : tie.Need-issued-requires
 issued-requires c κs = search needs
@@ -138,8 +147,18 @@ same-length-5 c = search needs
 
 returns-8 : tie.Need-returns-8
 returns-8 c =
-    let a = c .before .before .before .before .before .before .before .before .before .before .before .before .before .before .before .before .before .before .before .before .before .before .before .before .before .before .before .args in
-    request-done (a .players .now) (c .before .before .before .before .before .before .before .before .before .before .before .before .before .before .before .before .before .before .before .before .before .before .before .before .before .before .before .pre) (a .player) (a .range) (omega (arith, c .before .before .before .before .before .before .before .before .before .before .before .before .before .before .before .before .before .before .before .before .before .before .before .before .before .if1 .left)) (omega (arith, c .before .before .before .before .before .before .before .before .before .before .before .before .before .before .before .before .before .before .before .before .before .before .if2 .left)) (omega (arith, c .before .before .before .before .before .before .before .before .before .before .before .before .before .before .before .before .before .before .before .before .before .if3 .left)) (sym (not-false _ (c .before .before .before .before .before .before .before .before .before .before .before .before .before .before .before .before .before .before .if4 .left)) ∙ c .before .before .before .before .before .before .before .before .before .before .before .before .before .before .before .before .before .before .before .all-are .ensures) _ (c .before .before .before .before .before .before .before .before .before .before .before .before .before .before .before .scan-requests .ensures) (c .before .before .before .before .before .before .before .before .before .before .before .before .before .before .if5 .left) (omega (arith, c .before .before .before .before .before .before .before .before .before .before .before .before .if6 .left)) (omega (arith, c .before .before .before .before .before .before .before .before .before .before .if7 .left)) _ (c .before .before .before .before .before .before .before .before .clear .ensures) _ (c .before .before .before .before .for-guard .ensures) _ (c .before .before .before .add .ensures) _ (c .issued .ensures)
+    let e7 = c .before .before .before .before .before .before .before .before .before .before in
+    let e6 = e7 .before .before in
+    let e5 = e6 .before .before in
+    let s = e5 .before .before .before in
+    let e4 = s .before .before in
+    let e3 = e4 .before .before .before in
+    let e2 = e3 .before in
+    let e1 = e2 .before .before .before in
+    let x = e1 .before .before in
+    let a = x .args in
+    request-done (a .players .now) (x .pre) (a .player) (a .range) (omega (arith, e1 .if1 .left)) (omega (arith, e2 .if2 .left)) (omega (arith, e3 .if3 .left)) (sym (not-false _ (e4 .if4 .left)) ∙ e4 .before .all-are .ensures) _ _ (s .scan .ensures) (e5 .if5 .left) (omega (arith, e6 .if6 .left)) (omega (arith, e7 .if7 .left))
+    _ (c .before .before .before .before .before .before .before .before .clear .ensures) _ (c .before .before .before .before .for-guard .ensures) _ (c .before .before .before .add .ensures) _ (c .issued .ensures)
 
 pub request-guard-spec : {M : Type 1} → statement M
 request-guard-spec =
@@ -159,10 +178,10 @@ request-guard-spec =
     refuse-requires-4
     same-length
     returns-4
-    sub-scan-requests
-    part-scan-requests-start
-    part-scan-requests-end
-    scan-requests-requires
+    sub-scan
+    part-scan-start
+    part-scan-end
+    scan-requires
     refuse-requires-5
     same-length-2
     returns-5

@@ -92,17 +92,17 @@ add-cache c = search needs
 cache-requires : tie.Need-cache-requires
 cache-requires c κs = search needs
 
-sub-cross : tie.Need-sub-cross
-sub-cross c = search needs
+sub-scan : tie.Need-sub-scan
+sub-scan c = search needs
 
-part-cross-start : tie.Need-part-cross-start
-part-cross-start c = search needs
+part-scan-start : tie.Need-part-scan-start
+part-scan-start c = search needs
 
-part-cross-end : tie.Need-part-cross-end
-part-cross-end c = search needs
+part-scan-end : tie.Need-part-scan-end
+part-scan-end c = search needs
 
-cross-requires : tie.Need-cross-requires
-cross-requires c κs = search needs
+scan-requires : tie.Need-scan-requires
+scan-requires c κs = search needs
 
 add-for-entry : tie.Need-add-for-entry
 add-for-entry c = search needs
@@ -125,7 +125,7 @@ same-length-4 c = search needs
 returns-6 : tie.Need-returns-6
 returns-6 c =
     let a = c .before .before .before .before .before .before .before .before .before .before .before .before .before .before .before .before .before .before .before .before .before .before .before .before .before .before .before .args in
-    write-done (a .players .now) (c .before .before .before .before .before .before .before .before .before .before .before .before .before .before .before .before .before .before .before .before .before .before .before .before .before .before .before .pre) (a .player) (a .entry) (a .value) (omega (arith, c .before .before .before .before .before .before .before .before .before .before .before .before .before .before .before .before .before .before .before .before .before .before .before .before .before .if1 .left)) (omega (arith, c .before .before .before .before .before .before .before .before .before .before .before .before .before .before .before .before .before .before .before .before .before .before .before .before .before .before .before .fits)) (c .before .before .before .before .before .before .before .before .before .before .before .before .before .before .before .before .before .before .before .before .before .before .before .if2 .left) _ (c .before .before .before .before .before .before .before .before .before .before .before .before .before .before .before .before .before .before .before .before .before .live-guard .ensures) (c .before .before .before .before .before .before .before .before .before .before .before .before .before .before .before .before .before .before .before .before .if3 .left) (sym (c .before .before .before .before .before .before .before .before .before .before .before .before .before .before .before .before .if4 .left) ∙ c .before .before .before .before .before .before .before .before .before .before .before .before .before .before .before .before .before .is-full .ensures) (omega (arith, c .before .before .before .before .before .before .before .before .before .before .before .before .before .before .if5 .left)) _ (c .before .before .before .before .before .before .before .before .before .before .before .before .cache .ensures) _ _ (c .before .before .before .before .before .before .before .before .cross .ensures) _ (c .before .before .before .before .for-entry .ensures) _ (c .before .before .before .add .ensures) _ (c .issued .ensures)
+    write-done (a .players .now) (c .before .before .before .before .before .before .before .before .before .before .before .before .before .before .before .before .before .before .before .before .before .before .before .before .before .before .before .pre) (a .player) (a .entry) (a .value) (omega (arith, c .before .before .before .before .before .before .before .before .before .before .before .before .before .before .before .before .before .before .before .before .before .before .before .before .before .if1 .left)) (omega (arith, c .before .before .before .before .before .before .before .before .before .before .before .before .before .before .before .before .before .before .before .before .before .before .before .before .before .before .before .fits)) (c .before .before .before .before .before .before .before .before .before .before .before .before .before .before .before .before .before .before .before .before .before .before .before .if2 .left) _ (c .before .before .before .before .before .before .before .before .before .before .before .before .before .before .before .before .before .before .before .before .before .live-guard .ensures) (c .before .before .before .before .before .before .before .before .before .before .before .before .before .before .before .before .before .before .before .before .if3 .left) (sym (c .before .before .before .before .before .before .before .before .before .before .before .before .before .before .before .before .if4 .left) ∙ c .before .before .before .before .before .before .before .before .before .before .before .before .before .before .before .before .before .is-full .ensures) (omega (arith, c .before .before .before .before .before .before .before .before .before .before .before .before .before .before .if5 .left)) _ (c .before .before .before .before .before .before .before .before .before .before .before .before .cache .ensures) _ _ (c .before .before .before .before .before .before .before .before .scan .ensures) _ (c .before .before .before .before .for-entry .ensures) _ (c .before .before .before .add .ensures) _ (c .issued .ensures)
 
 pub write-spec : {M : Type 1} → statement M
 write-spec =
@@ -156,10 +156,10 @@ write-spec =
     mul-cache
     add-cache
     cache-requires
-    sub-cross
-    part-cross-start
-    part-cross-end
-    cross-requires
+    sub-scan
+    part-scan-start
+    part-scan-end
+    scan-requires
     add-for-entry
     for-entry-requires
     add-requires

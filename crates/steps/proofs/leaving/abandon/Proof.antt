@@ -1,12 +1,11 @@
 -- `steps::leaving::abandon` meets its contract.
 -- Assumes nothing.
-use mathlib.Core.Path.{sym, ap, _∙_}
-use mathlib.Core.Bool.{Bool, not}
+use mathlib.Core.Path.{sym, _∙_}
 use borrow.Author.Needs.{needs}
-use Rattle.requests.specs.Model.{pending}
+use Rattle.requests.specs.declared.Fit.the-variants.{Pending}
 use Rattle.requests.proofs.RegionLaws.{found-fits}
 use Rattle.players.specs.Rules.{abandon}
-use Rattle.steps.proofs.LeavingLaws.{nowhere-moves, unfit-moves, abandon-other, abandon-write}
+use Rattle.steps.proofs.LeavingLaws.{unfit-moves, abandon-other, abandon-write}
 use Rattle.steps.proofs.leaving.abandon.Statement.{statement}
 use Rattle.steps.proofs.leaving.abandon.Tie as tie
 
@@ -31,54 +30,56 @@ refuse-requires c κs = search needs
 enum-known-found : tie.Need-enum-known-found
 enum-known-found c = search needs
 
-refuse-requires-2 : tie.Need-refuse-requires-2
-refuse-requires-2 c κs = search needs
+give-up-requires : tie.Need-give-up-requires
+give-up-requires c κs = search needs
+
+done-requires : tie.Need-done-requires
+done-requires c κs = search needs
 
 same-length : tie.Need-same-length
 same-length c = search needs
 
 returns : tie.Need-returns
 returns c =
-    let a = c .before .before .before .before .before .before .before .before .before .args in
-    unfit-moves (a .serial) pending abandon (a .players .now) (c .before .before .before .before .before .before .before .before .before .pre) _ _ (sym (c .before .before .before .found .given .1) ∙ c .before .before .before .before .before .find .ensures) (ap (λ (b : Bool). not b) (c .before .if1 .taken)) _ (c .refuse2 .ensures)
+    let z = c .before .before .before .before .before in
+    let f = z .before .before .before in
+    let y = f .before .before in
+    let x = y .before .before .before .before in
+    abandon-other (x .args .serial) (x .args .players .now) (x .pre) _ _ (sym (f .found .given .1) ∙ y .find .ensures .answer) _ (z .give-up .ensures) (c .before .if1 .taken) _ (c .done .ensures)
 
-give-up-requires : tie.Need-give-up-requires
-give-up-requires c κs = search needs
+drop-guard-requires : tie.Need-drop-guard-requires
+drop-guard-requires c κs =
+    let z = c .before .before .before .before .before in
+    let f = z .before .before .before in
+    let y = f .before .before in
+    let x = y .before .before .before .before in
+    (z .give-up .kept .0 ∙ x .pre, found-fits Pending (x .args .serial) _ _ _ (sym (f .found .given .1) ∙ y .find .ensures .answer) .player)
 
-refuse-requires-3 : tie.Need-refuse-requires-3
-refuse-requires-3 c κs = search needs
+done-requires-2 : tie.Need-done-requires-2
+done-requires-2 c κs = search needs
 
 same-length-2 : tie.Need-same-length-2
 same-length-2 c = search needs
 
 returns-2 : tie.Need-returns-2
 returns-2 c =
-    let a = c .before .before .before .before .before .before .before .before .before .before .before .before .before .before .before .args in
-    abandon-other (a .serial) (a .players .now) (c .before .before .before .before .before .before .before .before .before .before .before .before .before .before .before .pre) _ _ (sym (c .before .before .before .before .before .before .before .before .before .found .given .1) ∙ c .before .before .before .before .before .before .before .before .before .before .before .find .ensures) (c .before .before .before .before .before .before .before .if1 .left) _ (c .before .before .before .before .before .give-up .ensures) (c .before .if2 .taken) _ (c .refuse3 .ensures)
-
-drop-guard-requires : tie.Need-drop-guard-requires
-drop-guard-requires c κs =
-    let a = c .before .before .before .before .before .before .before .before .before .before .before .before .before .before .before .args in
-    (c .before .before .before .before .before .give-up .kept .0 ∙ c .before .before .before .before .before .before .before .before .before .before .before .before .before .before .before .pre, found-fits (a .serial) _ _ _ (sym (c .before .before .before .before .before .before .before .before .before .found .given .1) ∙ c .before .before .before .before .before .before .before .before .before .before .before .find .ensures) .player)
-
-refuse-requires-4 : tie.Need-refuse-requires-4
-refuse-requires-4 c κs = search needs
+    let y = c .before .before .before in
+    let x = y .before .before .before .before in
+    unfit-moves Pending (x .args .serial) abandon (x .args .players .now) (x .pre) (sym (c .before .enum-told .given .1) ∙ y .find .ensures .answer) _ (c .refuse .ensures)
 
 same-length-3 : tie.Need-same-length-3
 same-length-3 c = search needs
 
 returns-3 : tie.Need-returns-3
 returns-3 c =
-    let a = c .before .before .before .before .before .before .before .args in
-    nowhere-moves (a .serial) pending abandon (a .players .now) (c .before .before .before .before .before .before .before .pre) (sym (c .before .enum-told .given .1) ∙ c .before .before .before .find .ensures) _ (c .refuse .ensures)
-
-same-length-4 : tie.Need-same-length-4
-same-length-4 c = search needs
-
-returns-4 : tie.Need-returns-4
-returns-4 c =
-    let a = c .before .before .before .before .before .before .before .before .before .before .before .before .before .before .before .before .before .before .before .args in
-    abandon-write (a .serial) (a .players .now) (c .before .before .before .before .before .before .before .before .before .before .before .before .before .before .before .before .before .before .before .pre) _ _ (sym (c .before .before .before .before .before .before .before .before .before .before .before .before .before .found .given .1) ∙ c .before .before .before .before .before .before .before .before .before .before .before .before .before .before .before .find .ensures) (c .before .before .before .before .before .before .before .before .before .before .before .if1 .left) _ (c .before .before .before .before .before .before .before .before .before .give-up .ensures) (c .before .before .before .before .before .if2 .left) (found-fits (a .serial) _ _ _ (sym (c .before .before .before .before .before .before .before .before .before .before .before .before .before .found .given .1) ∙ c .before .before .before .before .before .before .before .before .before .before .before .before .before .before .before .find .ensures) .player) _ (c .before .before .before .drop-guard .ensures) _ (c .refuse4 .ensures)
+    let d = c .before .before .before in
+    let e = d .before .before in
+    let z = e .before .before .before .before in
+    let f = z .before .before .before in
+    let y = f .before .before in
+    let x = y .before .before .before .before in
+    let h = sym (f .found .given .1) ∙ y .find .ensures .answer in
+    abandon-write (x .args .serial) (x .args .players .now) (x .pre) _ _ h _ (z .give-up .ensures) (e .if1 .left) (found-fits Pending (x .args .serial) _ _ _ h .player) _ (d .drop-guard .ensures) _ (c .done2 .ensures)
 
 pub abandon-spec : {M : Type 1} → statement M
 abandon-spec =
@@ -91,16 +92,13 @@ abandon-spec =
     enum-told
     refuse-requires
     enum-known-found
-    refuse-requires-2
+    give-up-requires
+    done-requires
     same-length
     returns
-    give-up-requires
-    refuse-requires-3
+    drop-guard-requires
+    done-requires-2
     same-length-2
     returns-2
-    drop-guard-requires
-    refuse-requires-4
     same-length-3
-    returns-3
-    same-length-4
-    returns-4)
+    returns-3)

@@ -2,9 +2,9 @@
 -- Assumes nothing.
 use mathlib.Core.Path.{sym, _∙_}
 use borrow.Author.Needs.{needs}
-use borrow.Author.Tests.{not-true, not-false}
+use Rattle.requests.specs.declared.Fit.the-variants.{Abandoned}
 use Rattle.players.specs.Rules.{lose}
-use Rattle.steps.proofs.LeavingLaws.{nowhere-moves, unfit-moves, lose-moves}
+use Rattle.steps.proofs.LeavingLaws.{unfit-moves, lose-moves}
 use Rattle.steps.proofs.leaving.lose.Statement.{statement}
 use Rattle.steps.proofs.leaving.lose.Tie as tie
 
@@ -29,17 +29,6 @@ refuse-requires c κs = search needs
 enum-known-found : tie.Need-enum-known-found
 enum-known-found c = search needs
 
-refuse-requires-2 : tie.Need-refuse-requires-2
-refuse-requires-2 c κs = search needs
-
-same-length : tie.Need-same-length
-same-length c = search needs
-
-returns : tie.Need-returns
-returns c =
-    let a = c .before .before .before .before .before .before .before .before .before .before .args in
-    unfit-moves (a .serial) (λ q. q .abandoned) lose (a .players .now) (c .before .before .before .before .before .before .before .before .before .before .pre) _ _ (sym (c .before .before .before .before .found .given .1) ∙ c .before .before .before .before .before .before .find .ensures) (not-true _ (c .before .if1 .taken)) _ (c .refuse2 .ensures)
-
 sub-remove : tie.Need-sub-remove
 sub-remove c = search needs
 
@@ -52,24 +41,28 @@ part-remove-end c = search needs
 remove-requires : tie.Need-remove-requires
 remove-requires c κs = search needs
 
-refuse-requires-3 : tie.Need-refuse-requires-3
-refuse-requires-3 c κs = search needs
+done-requires : tie.Need-done-requires
+done-requires c κs = search needs
+
+same-length : tie.Need-same-length
+same-length c = search needs
+
+returns : tie.Need-returns
+returns c =
+    let y = c .before .before .before in
+    let x = y .before .before .before .before in
+    unfit-moves Abandoned (x .args .serial) lose (x .args .players .now) (x .pre) (sym (c .before .enum-told .given .1) ∙ y .find .ensures .answer) _ (c .refuse .ensures)
 
 same-length-2 : tie.Need-same-length-2
 same-length-2 c = search needs
 
 returns-2 : tie.Need-returns-2
 returns-2 c =
-    let a = c .before .before .before .before .before .before .before .args in
-    nowhere-moves (a .serial) (λ q. q .abandoned) lose (a .players .now) (c .before .before .before .before .before .before .before .pre) (sym (c .before .enum-told .given .1) ∙ c .before .before .before .find .ensures) _ (c .refuse .ensures)
-
-same-length-3 : tie.Need-same-length-3
-same-length-3 c = search needs
-
-returns-3 : tie.Need-returns-3
-returns-3 c =
-    let a = c .before .before .before .before .before .before .before .before .before .before .before .before .before .before .args in
-    lose-moves (a .serial) (a .players .now) (c .before .before .before .before .before .before .before .before .before .before .before .before .before .before .pre) _ _ (sym (c .before .before .before .before .before .before .before .before .found .given .1) ∙ c .before .before .before .before .before .before .before .before .before .before .find .ensures) (not-false _ (c .before .before .before .before .before .if1 .left)) _ (c .before .before .before .remove .ensures) _ (c .refuse3 .ensures)
+    let z = c .before .before .before in
+    let f = z .before .before .before in
+    let y = f .before .before in
+    let x = y .before .before .before .before in
+    lose-moves (x .args .serial) (x .args .players .now) (x .pre) _ _ (sym (f .found .given .1) ∙ y .find .ensures .answer) _ (z .remove .ensures) _ (c .done .ensures)
 
 pub lose-spec : {M : Type 1} → statement M
 lose-spec =
@@ -82,15 +75,12 @@ lose-spec =
     enum-told
     refuse-requires
     enum-known-found
-    refuse-requires-2
-    same-length
-    returns
     sub-remove
     part-remove-start
     part-remove-end
     remove-requires
-    refuse-requires-3
+    done-requires
+    same-length
+    returns
     same-length-2
-    returns-2
-    same-length-3
-    returns-3)
+    returns-2)

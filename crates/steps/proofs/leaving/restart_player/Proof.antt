@@ -35,8 +35,8 @@ part-restart-end c = search needs
 restart-requires : tie.Need-restart-requires
 restart-requires c κs = search needs
 
-refuse-requires-2 : tie.Need-refuse-requires-2
-refuse-requires-2 c κs = search needs
+done-requires : tie.Need-done-requires
+done-requires c κs = search needs
 
 same-length : tie.Need-same-length
 same-length c = search needs
@@ -44,7 +44,7 @@ same-length c = search needs
 returns-2 : tie.Need-returns-2
 returns-2 c =
     let a = c .before .before .before .before .before .before .before .before .before .before .before .args in
-    restart-moves (a .players .now) (c .before .before .before .before .before .before .before .before .before .before .before .pre) (a .player) (omega arith) _ (c .before .before .before .before .before .before .before .clear .ensures) _ (c .before .before .before .restart .ensures) _ (c .refuse2 .ensures)
+    restart-moves (a .players .now) (c .before .before .before .before .before .before .before .before .before .before .before .pre) (a .player) (omega arith) _ (c .before .before .before .before .before .before .before .clear .ensures) _ (c .before .before .before .restart .ensures) _ (c .done .ensures)
 
 pub restart-player-spec : {M : Type 1} → statement M
 restart-player-spec =
@@ -59,6 +59,6 @@ restart-player-spec =
     part-restart-start
     part-restart-end
     restart-requires
-    refuse-requires-2
+    done-requires
     same-length
     returns-2)

@@ -3,7 +3,7 @@
 use mathlib.Core.Path.{_≡_, sym, _∙_}
 use Prim.Native.Nat.{_≤_, _-_}
 use native.Mathlib.Omega.{arith}
-use Rattle.steps.specs.RespondCalls.{owning, still-owning}
+use Rattle.steps.specs.InnerRespond.{owning, still-owning}
 use Rattle.steps.proofs.RespondLaws.{own-none, own-beyond, own-range, own-other, own-late, own-more, own-end}
 use borrow.Author.Needs.{needs}
 use Rattle.steps.proofs.responding.still_owned.Statement.{statement}

@@ -46,8 +46,8 @@ marked-requires c κs = search needs
 allowed-requires : tie.Need-allowed-requires
 allowed-requires c κs = search needs
 
-take-requires : tie.Need-take-requires
-take-requires c κs =
+take-records-requires : tie.Need-take-records-requires
+take-records-requires c κs =
     let k = c .before .before .before .before .before .before .before .before .before in
     let a = k .before .before .before .before .before .before .before .args in
     ready (a .store .now) (a .players .now) (a .session .now) (a .budget) (a .replies .now) (k .check .result) (k .check .ensures) (c .before .before .before .before .before .before .before .if1 .left) (c .before .before .before .before .before .before .if2 .left) (sym (c .before .before .before .before .before .marked .ensures) ∙ c .before .before .before .before .if3 .taken) _ (c .before .before .before .allowed .ensures) (omega arith)
@@ -68,7 +68,7 @@ returns-3 : tie.Need-returns-3
 returns-3 c =
     let k = c .before .before .before .before .before .before .before .before .before .before .before .before .before .before .before .before in
     let a = k .before .before .before .before .before .before .before .args in
-    all-taken (a .store .now) (a .players .now) (a .session .now) (a .budget) (a .replies .now) (k .check .result) (k .check .ensures) (c .before .before .before .before .before .before .before .before .before .before .before .before .before .before .if1 .left) (c .before .before .before .before .before .before .before .before .before .before .before .before .before .if2 .left) (sym (c .before .before .before .before .before .before .before .before .before .before .before .before .marked .ensures) ∙ c .before .before .before .before .before .before .before .before .before .before .before .if3 .taken) _ (rw (c .before .before .before .before .before .before .before .before .before .before .allowed .ensures) at (c .before .before .before .before .before .before .take .ensures))
+    all-taken (a .store .now) (a .players .now) (a .session .now) (a .budget) (a .replies .now) (k .check .result) (k .check .ensures) (c .before .before .before .before .before .before .before .before .before .before .before .before .before .before .if1 .left) (c .before .before .before .before .before .before .before .before .before .before .before .before .before .if2 .left) (sym (c .before .before .before .before .before .before .before .before .before .before .before .before .marked .ensures) ∙ c .before .before .before .before .before .before .before .before .before .before .before .if3 .taken) _ (rw (c .before .before .before .before .before .before .before .before .before .before .allowed .ensures) at (c .before .before .before .before .before .before .take-records .ensures))
 
 same-length-8 : tie.Need-same-length-8
 same-length-8 c = search needs
@@ -97,7 +97,7 @@ run-spec =
     returns-2
     marked-requires
     allowed-requires
-    take-requires
+    take-records-requires
     stopped-requires-3
     same-length-5
     same-length-6

@@ -2,7 +2,7 @@
 -- Assumes nothing.
 use mathlib.Core.Path.{sym, _∙_}
 use borrow.Author.Needs.{needs}
-use Rattle.steps.proofs.StoreStepLaws.{deliver-nowhere, deliver-unfit, deliver-fit}
+use Rattle.steps.proofs.StoreStepLaws.{deliver-unfit, deliver-fit}
 use Rattle.steps.proofs.store_steps.deliver.Statement.{statement}
 use Rattle.steps.proofs.store_steps.deliver.Tie as tie
 
@@ -27,55 +27,40 @@ refuse-requires c κs = search needs
 enum-known-found : tie.Need-enum-known-found
 enum-known-found c = search needs
 
-refuse-requires-2 : tie.Need-refuse-requires-2
-refuse-requires-2 c κs = search needs
-
-same-length : tie.Need-same-length
-same-length c = search needs
-
-returns : tie.Need-returns
-returns c =
-    let f = c .before .before .before in
-    let y = f .before .before in
-    let x = y .before .before .before .before .before in
-    rw (c .refuse2 .ensures)
-    (deliver-unfit (x .args .store .now) (x .args .players .now) (x .pre .0) (x .pre .1) (x .args .serial) _ _ (sym (f .found .given .1) ∙ y .find .ensures) (c .before .if1 .taken))
-
 perform-requires : tie.Need-perform-requires
 perform-requires c κs = search needs
 
 settle-requires : tie.Need-settle-requires
 settle-requires c κs = search needs
 
-refuse-requires-3 : tie.Need-refuse-requires-3
-refuse-requires-3 c κs = search needs
+done-requires : tie.Need-done-requires
+done-requires c κs = search needs
+
+same-length : tie.Need-same-length
+same-length c = search needs
+
+returns : tie.Need-returns
+returns c =
+    let y = c .before .before .before in
+    let x = y .before .before .before .before .before in
+    rw (c .refuse .ensures)
+    (deliver-unfit (x .args .store .now) (x .args .players .now) (x .pre .0) (x .pre .1) (x .args .serial) (sym (c .before .enum-told .given .1) ∙ y .find .ensures .answer))
 
 same-length-2 : tie.Need-same-length-2
 same-length-2 c = search needs
 
-returns-2 : tie.Need-returns-2
-returns-2 c =
-    let y = c .before .before .before in
-    let x = y .before .before .before .before .before in
-    rw (c .refuse .ensures)
-    (deliver-nowhere (x .args .store .now) (x .args .players .now) (x .pre .0) (x .pre .1) (x .args .serial) (sym (c .before .enum-told .given .1) ∙ y .find .ensures))
-
 same-length-3 : tie.Need-same-length-3
 same-length-3 c = search needs
 
-same-length-4 : tie.Need-same-length-4
-same-length-4 c = search needs
-
-returns-3 : tie.Need-returns-3
-returns-3 c =
+returns-2 : tie.Need-returns-2
+returns-2 c =
     let z = c .before .before .before in
     let p = z .before .before .before .before in
-    let e = p .before .before in
-    let f = e .before .before in
+    let f = p .before .before .before in
     let y = f .before .before in
     let x = y .before .before .before .before .before in
-    deliver-fit (x .args .store .now) (x .args .players .now) (x .pre .0) (x .pre .1) (x .args .serial) _ _ (sym (f .found .given .1) ∙ y .find .ensures) (e .if1 .left)
-    _ _ _ _ (p .perform .ensures) (z .settle .ensures) (c .refuse3 .ensures)
+    deliver-fit (x .args .store .now) (x .args .players .now) (x .pre .0) (x .pre .1) (x .args .serial) _ _ (sym (f .found .given .1) ∙ y .find .ensures .answer)
+    _ _ _ _ (p .perform .ensures) (z .settle .ensures) (c .done .ensures)
 
 pub deliver-spec : {M : Type 1} → statement M
 deliver-spec =
@@ -88,14 +73,11 @@ deliver-spec =
     enum-told
     refuse-requires
     enum-known-found
-    refuse-requires-2
-    same-length
-    returns
     perform-requires
     settle-requires
-    refuse-requires-3
+    done-requires
+    same-length
+    returns
     same-length-2
-    returns-2
     same-length-3
-    same-length-4
-    returns-3)
+    returns-2)

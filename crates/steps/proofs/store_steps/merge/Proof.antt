@@ -2,7 +2,7 @@
 -- Assumes nothing.
 use native.Mathlib.Omega.{arith}
 use borrow.Author.Needs.{needs}
-use Rattle.store.proofs.WordLaws.{merge-steps}
+use Rattle.store.proofs.WordLaws.{merge-refines}
 use Rattle.steps.proofs.StoreStepLaws.{merge-shifts}
 use Rattle.steps.proofs.store_steps.merge.Statement.{statement}
 use Rattle.steps.proofs.store_steps.merge.Tie as tie
@@ -16,7 +16,7 @@ same-length c = search needs
 returns : tie.Need-returns
 returns c =
     let x = c .before .before .before .before .before in
-    merge-shifts (x .args .store .now) (x .pre) (x .args .entry) _ _ (merge-steps (x .args .entry) (omega arith) (c .before .before .merge .ensures))
+    merge-shifts (x .args .store .now) (x .pre) (x .args .entry) _ _ (merge-refines (x .args .entry) (omega arith) (c .before .before .merge .ensures))
 
 pub merge-spec : {M : Type 1} → statement M
 merge-spec = tie.close (tie.spec merge-requires same-length returns)

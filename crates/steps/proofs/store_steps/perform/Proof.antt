@@ -2,7 +2,7 @@
 -- Assumes nothing.
 use native.Mathlib.Omega.{arith}
 use borrow.Author.Needs.{needs}
-use Rattle.store.proofs.WordLaws.{install-steps, read-steps, commit-steps}
+use Rattle.store.proofs.WordLaws.{install-refines, read-refines, commit-refines}
 use Rattle.steps.proofs.StoreStepLaws.{perform-guard-request, perform-read, perform-write}
 use Rattle.steps.proofs.store_steps.perform.Statement.{statement}
 use Rattle.steps.proofs.store_steps.perform.Tie as tie
@@ -16,7 +16,7 @@ same-length c = search needs
 returns : tie.Need-returns
 returns c =
     let x = c .before .before .before .before in
-    perform-guard-request (x .before .before .before .args .r) (x .before .before .before .args .store .now) _ _ (x .if1 .taken) (install-steps _ _ (c .before .before .install .ensures))
+    perform-guard-request (x .before .before .before .args .r) (x .before .before .before .args .store .now) _ _ (x .if1 .taken) (install-refines _ _ (c .before .before .install .ensures))
 
 read-requires : tie.Need-read-requires
 read-requires c κs = search needs
@@ -28,7 +28,7 @@ returns-2 : tie.Need-returns-2
 returns-2 c =
     let y = c .before .before in
     let x = y .before .before in
-    perform-read (x .before .before .before .args .r) (x .before .before .before .args .store .now) _ _ (x .if1 .left) (y .if2 .taken) (read-steps (x .before .before .before .args .r .low) (omega arith) (c .read .ensures))
+    perform-read (x .before .before .before .args .r) (x .before .before .before .args .store .now) _ _ (x .if1 .left) (y .if2 .taken) (read-refines (x .before .before .before .args .r .low) (omega arith) (c .read .ensures))
 
 commit-requires : tie.Need-commit-requires
 commit-requires c κs = search needs
@@ -40,7 +40,7 @@ returns-3 : tie.Need-returns-3
 returns-3 c =
     let y = c .before .before .before .before in
     let x = y .before .before in
-    perform-write (x .before .before .before .args .r) (x .before .before .before .args .store .now) _ _ (x .if1 .left) (y .if2 .left) (let r = x .before .before .before .args .r in commit-steps (r .low) (omega arith) (r .value) (r .serial) (r .guard) (c .before .before .commit .ensures))
+    perform-write (x .before .before .before .args .r) (x .before .before .before .args .store .now) _ _ (x .if1 .left) (y .if2 .left) (let r = x .before .before .before .args .r in commit-refines (r .low) (omega arith) (r .value) (r .serial) (r .guard) (c .before .before .commit .ensures))
 
 pub perform-spec : {M : Type 1} → statement M
 perform-spec =

@@ -2,7 +2,7 @@
 -- Assumes nothing.
 use native.Mathlib.Omega.{arith}
 use borrow.Author.Needs.{needs}
-use Rattle.store.proofs.WordLaws.{split-steps}
+use Rattle.store.proofs.WordLaws.{split-refines}
 use Rattle.steps.proofs.StoreStepLaws.{split-shifts}
 use Rattle.steps.proofs.store_steps.split.Statement.{statement}
 use Rattle.steps.proofs.store_steps.split.Tie as tie
@@ -16,7 +16,7 @@ same-length c = search needs
 returns : tie.Need-returns
 returns c =
     let x = c .before .before .before .before .before in
-    split-shifts (x .args .store .now) (x .pre) (x .args .entry) _ _ (split-steps (x .args .entry) (omega arith) (c .before .before .split .ensures))
+    split-shifts (x .args .store .now) (x .pre) (x .args .entry) _ _ (split-refines (x .args .entry) (omega arith) (c .before .before .split .ensures))
 
 pub split-spec : {M : Type 1} → statement M
 split-spec = tie.close (tie.spec split-requires same-length returns)

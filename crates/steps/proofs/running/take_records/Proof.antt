@@ -1,21 +1,22 @@
--- `steps::running::take` meets its contract.
+-- `steps::running::take_records` meets its contract.
 -- Assumes nothing.
 use mathlib.Core.Path.{_≡_, refl}
 use Prim.Native.Nat.{_-_}
 use native.Mathlib.Omega.{arith}
 use lib.ListN.{length, drop}
 use Rattle.players.specs.Table.{stateOf}
+use Rattle.session.specs.Mark.{mark}
 use Rattle.session.specs.Runs.{run-from}
 use Rattle.session.specs.Records.{Bytes}
 use Rattle.session.proofs.RunLaws.{bytes-drop}
 use Rattle.steps.proofs.RunningLaws.{decoded-at, record-within, Running, running-begins, ends, is-spent, is-refused, one-more}
 use borrow.Author.Needs.{needs}
-use Rattle.steps.proofs.running.take.Statement.{statement}
-use Rattle.steps.proofs.running.take.Tie as tie
+use Rattle.steps.proofs.running.take_records.Statement.{statement}
+use Rattle.steps.proofs.running.take_records.Tie as tie
 
 abbrev Inv-loop : tie.InvT-loop
 Inv-loop store₀ players₀ session left replies₀ place₀ taken₀ store players replies place taken =
-    (Running (run-from left (stateOf store₀ players₀) 4 (drop 4 session)) left session replies₀ taken place store players replies)
+    (Running (run-from left (stateOf store₀ players₀) (length mark) (drop (length mark) session)) left session replies₀ taken place store players replies)
     × (length store ≡ length store₀) × (length players ≡ length players₀) × (length replies ≡ length replies₀)
 
 abbrev μ-loop : tie.MeasureT-loop
@@ -59,8 +60,8 @@ decode-requires c κs = search needs
 enum-known-decoded : tie.Need-enum-known-decoded Inv-loop μ-loop
 enum-known-decoded c = search needs
 
-take-requires : tie.Need-take-requires Inv-loop μ-loop
-take-requires c κs = search needs
+apply-requires : tie.Need-apply-requires Inv-loop μ-loop
+apply-requires c κs = search needs
 
 mul-put-reply : tie.Need-mul-put-reply Inv-loop μ-loop
 mul-put-reply c = search needs
@@ -102,7 +103,7 @@ loop-again c =
     let s = c .before .before .before .before .before .before .before .before .before .before .before .before .decoded in
     let e = decoded-at (l .place) (a .session .now) _ _ (c .before .before .before .before .before .before .before .before .before .before .before .before .before .before .decode .ensures) (s .given .1) in
     let bytes = bytes-drop (l .place) (a .session .now) (λ i. omega (arith, c .before .before .before .before .before .before .before .before .before .before .before .before .before .before .before .before .before .before .before .before .shared-slice-known .given i)) in
-    (one-more (a .left) (a .session .now) (a .replies .now) _ (l .taken) (l .place) (l .store) (l .players) (l .replies) (l .inv .0) (c .before .before .before .before .before .before .before .before .before .before .before .before .before .before .before .before .before .loop-test .taken) (omega (arith, c .before .before .before .before .before .before .before .before .before .before .before .before .before .before .before .before .if1 .left)) bytes _ _ e (omega (arith, c .before .before .before .before .before .before .before .before .before .before .before .before .before .before .before .before .before .before .before .before .before .before .before .pre .room, c .before .before .before .before .before .before .before .before .before .before .before .before .before .before .before .before .if1 .left)) (c .before .before .before .before .before .before .before .before .take .result) _ _ _ (c .before .before .before .before .before .before .before .before .take .ensures) (c .before .before .put-reply .ensures), search needs, search needs, search needs)
+    (one-more (a .left) (a .session .now) (a .replies .now) _ (l .taken) (l .place) (l .store) (l .players) (l .replies) (l .inv .0) (c .before .before .before .before .before .before .before .before .before .before .before .before .before .before .before .before .before .loop-test .taken) (omega (arith, c .before .before .before .before .before .before .before .before .before .before .before .before .before .before .before .before .if1 .left)) bytes _ _ e (omega (arith, c .before .before .before .before .before .before .before .before .before .before .before .before .before .before .before .before .before .before .before .before .before .before .before .pre .room, c .before .before .before .before .before .before .before .before .before .before .before .before .before .before .before .before .if1 .left)) (c .before .before .before .before .before .before .before .before .apply .result) _ _ _ (c .before .before .before .before .before .before .before .before .apply .ensures) (c .before .before .put-reply .ensures), search needs, search needs, search needs)
 
 enum-known-decoded-2 : tie.Need-enum-known-decoded-2 Inv-loop μ-loop
 enum-known-decoded-2 c = search needs
@@ -143,8 +144,8 @@ returns-3 c =
     let a = c .before .before .before .before .before .before .before .args in
     rw (c .stopped3 .ensures) (ends (a .left) (a .session .now) (a .replies .now) _ (l .taken) (l .place) (l .store) (l .players) (l .replies) (l .inv .0) (c .before .loop-test .left))
 
-pub take-spec : {M : Type 1} → statement M
-take-spec =
+pub take-records-spec : {M : Type 1} → statement M
+take-records-spec =
     tie.close
     (tie.spec
     Inv-loop
@@ -160,7 +161,7 @@ take-spec =
     part-decode-end
     decode-requires
     enum-known-decoded
-    take-requires
+    apply-requires
     mul-put-reply
     put-reply-requires
     add-place

@@ -14,7 +14,7 @@ use Rattle.requests.specs.declared.Request.{Request}
 use Rattle.requests.specs.Calls.{with-request, with-abandoned, without}
 use Rattle.players.specs.Replies.{out-of-range}
 use Rattle.players.specs.Rules.{State, Result, check, need-serial, set-owner}
-use Rattle.players.specs.Table.{stateOf, tableOf, valid}
+use Rattle.players.specs.Table.{epochs-at, guards-at, held-at, owners-at, requests-at, values-at, versions-at, stateOf, tableOf, valid}
 
 -- a step that leaves the store's table alone: what it does to a players' table that keeps the rules beside some store's
 pub record Moves (f : State → Result) (t : List ℕ) (r : Reply) (t′ : List ℕ) : Type 0 where
@@ -29,13 +29,13 @@ own p g s = check s (bad-range g) out-of-range (need-serial s (set-owner s p g))
 -- the guard that player p holds for entry e if it is live, else 0
 unfoldable pub live-guard : List ℕ → ℕ → ℕ → ℕ
 live-guard t p e =
-    let g = getD t (513 + (p * 256 + e)) 0 in
-    cond (not (eqb g 0) && (eqb (getD t (1 + e) 0) p && ltb (getD t (257 + e) 0) g)) g 0
+    let g = getD t (held-at + (p * 256 + e)) 0 in
+    cond (not (eqb g 0) && (eqb (getD t (owners-at + e) 0) p && ltb (getD t (epochs-at + e) 0) g)) g 0
 
 -- what player p has cached for entry e may be read
 unfoldable pub hit : List ℕ → ℕ → ℕ → Bool
 hit t p e =
-    let g = getD t (2561 + (p * 256 + e)) 0 in
+    let g = getD t (guards-at + (p * 256 + e)) 0 in
     not (eqb g 0) && eqb (live-guard t p e) g
 
 -- each of n words from word i on is v
@@ -49,17 +49,17 @@ all-are v i (suc n) t = eqb (getD t i 0) v && all-are v (suc i) n t
 unfoldable pub added : ℕ → Request → List ℕ → List ℕ
 added k r t =
     let u = set t 0 (r .serial) in
-    putMid 8705 768 u (with-request k r (take 768 (drop 8705 u)))
+    putMid requests-at 768 u (with-request k r (take 768 (drop requests-at u)))
 
 -- the request of place k leaves if it is delivered, and is abandoned if not
 unfoldable pub giving-up : ℕ → Bool → List ℕ → List ℕ
 giving-up k delivered t =
-    let w = take 768 (drop 8705 t) in
-    putMid 8705 768 t (cond delivered (without k w) (with-abandoned k w))
+    let w = take 768 (drop requests-at t) in
+    putMid requests-at 768 t (cond delivered (without k w) (with-abandoned k w))
 
 -- what is cached in cell i
 unfoldable pub caching : ℕ → ℕ → ℕ → ℕ → List ℕ → List ℕ
-caching i guard version value t = set (set (set t (2561 + i) guard) (4609 + i) version) (6657 + i) value
+caching i guard version value t = set (set (set t (guards-at + i) guard) (versions-at + i) version) (values-at + i) value
 
 -- the words from b + lo up to b + hi become v
 abbrev pub filled : ℕ → ℕ → ℕ → ℕ → List ℕ → List ℕ
@@ -67,9 +67,9 @@ filled b lo hi v t = putMid (b + lo) (b + hi - (b + lo)) t (replicate (b + hi - 
 
 -- the guards of cells lo up to hi cleared, each with what is cached under it
 unfoldable pub cleared : ℕ → ℕ → List ℕ → List ℕ
-cleared lo hi t = filled 6657 lo hi 0 (filled 4609 lo hi 0 (filled 2561 lo hi 0 (filled 513 lo hi 0 t)))
+cleared lo hi t = filled values-at lo hi 0 (filled versions-at lo hi 0 (filled guards-at lo hi 0 (filled held-at lo hi 0 t)))
 
 -- of n cells from cell i on, those whose guard is g cleared
 unfoldable pub dropped : ℕ → ℕ → ℕ → List ℕ → List ℕ
 dropped g i zero t = t
-dropped g i (suc n) t = dropped g (suc i) n (cond (eqb (getD t (513 + i) 0) g) (caching i 0 0 0 (set t (513 + i) 0)) t)
+dropped g i (suc n) t = dropped g (suc i) n (cond (eqb (getD t (held-at + i) 0) g) (caching i 0 0 0 (set t (held-at + i) 0)) t)

@@ -11,8 +11,8 @@ use Rattle.store.specs.declared.Reply.{Reply}
 use Rattle.requests.specs.declared.Request.{Request}
 use Rattle.requests.specs.Region.{fields-hold}
 use Rattle.players.specs.Rules.{State, Result, removed}
-use Rattle.players.specs.Table.{tableOf}
-use Rattle.steps.specs.Calls.{live-guard, caching}
+use Rattle.players.specs.Table.{epochs-at, owners-at, tableOf}
+use Rattle.steps.specs.InnerWords.{live-guard, caching}
 
 -- what is done to the table of a state that request r has left, where f is the rule of the state that still had it
 pub record Responds (f : State → Request → Result) (r : Request) (t : List ℕ) (x : Reply) (t′ : List ℕ) : Type 0 where
@@ -21,7 +21,7 @@ pub record Responds (f : State → Request → Result) (r : Request) (t : List �
 -- player p owns each of k entries from entry e on, with an epoch below n
 unfoldable pub owning : ℕ → ℕ → ℕ → ℕ → List ℕ → Bool
 owning p n e zero t = true
-owning p n e (suc k) t = (eqb (getD t (1 + e) 0) p && ltb (getD t (257 + e) 0) n) && owning p n (suc e) k t
+owning p n e (suc k) t = (eqb (getD t (owners-at + e) 0) p && ltb (getD t (epochs-at + e) 0) n) && owning p n (suc e) k t
 
 -- the range is one, and the player owns each entry of it so
 abbrev pub still-owning : ℕ → ℕ → ℕ → ℕ → List ℕ → Bool
