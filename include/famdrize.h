@@ -102,7 +102,7 @@ typedef struct {
     uint32_t place;
 } famdrize_report;
 
-/* A request in flight. A place that is not used has serial 0. */
+/* A request in flight, as one place of the lent list. A place that is not used has serial 0. A mark stands where its number is not 0. */
 typedef struct {
     uint32_t serial;
     uint8_t player;
@@ -111,9 +111,9 @@ typedef struct {
     uint16_t high;
     uint32_t value;
     uint32_t guard; /* the guard carried */
-    bool overlapped;
-    bool delivered;
-    bool abandoned;
+    uint8_t overlapped;
+    uint8_t delivered;
+    uint8_t abandoned;
     uint32_t first; /* the outcome: 1 or 2 and 0, of a read version and value */
     uint32_t second;
 } famdrize_request;

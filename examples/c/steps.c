@@ -67,8 +67,9 @@ static void records(void)
 static void waiting(void)
 {
     requests[0] = (famdrize_request){.serial = 1, .player = 3, .kind = FAMDRIZE_READ, .low = 45};
-    requests[1] = (famdrize_request){.serial = 2, .player = 3, .kind = FAMDRIZE_READ, .low = 46, .abandoned = true};
+    requests[1] = (famdrize_request){.serial = 2, .player = 3, .kind = FAMDRIZE_READ, .low = 46, .abandoned = 1};
     requests[2] = (famdrize_request){.serial = 4, .player = 3, .kind = FAMDRIZE_READ, .low = 47};
+    requests[3] = (famdrize_request){.serial = 5, .player = 3, .kind = FAMDRIZE_READ, .low = 48, .abandoned = 255}; /* a mark as well */
     print("waiting", famdrize_waiting(requests, FAMDRIZE_REQUESTS, 3));
     print("waiting of player 8", famdrize_waiting(requests, FAMDRIZE_REQUESTS, 8));
     print("waiting, one place less", famdrize_waiting(requests, FAMDRIZE_REQUESTS - 1, 3));

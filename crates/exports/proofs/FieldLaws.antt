@@ -3,19 +3,22 @@
 use mathlib.Core.Path.{_≡_, _∙_, refl, ap}
 use mathlib.Core.Bool.{Bool, true, false, cond, _&&_, _||_}
 use mathlib.Core.List.{List, [], _∷_}
-use Prim.Native.Nat.{ℕ, _/_, _≤_, _<_}
+use Prim.Native.Nat.{ℕ, zero, suc, _/_, _≤_, _<_}
 use native.Mathlib.Omega.{arith}
 use lib.ListN.{length, getD, drop}
 use lib.Dec.{ltb, eqb}
 use borrow.Author.Tests.{lt-ltb, le-ltb, eq-eqb, ltb-false, eqb-true}
 use Rattle.players.specs.declared.Step.{Step}
 use Rattle.players.specs.declared.Step.the-variants.{Assign, Release, RequestGuard, Read, Write, Deliver, Respond, Abandon, Lose, Split, Merge, RestartTablet, RestartPlayer}
-use Rattle.session.specs.Layout.{stands, map-of}
-use Rattle.session.specs.Records.{kind-and-fields, kind, step-of}
-use Rattle.session.proofs.StepLaws.{none, _&_, each-kind}
+use Rattle.players.specs.Played.{Fits}
+use Rattle.session.specs.Layout.{widths, stands, last-kind, map-of}
+use Rattle.session.specs.Records.{unknown-kind, wrong-fields, kind-and-fields, kind, step-of}
+use Rattle.session.specs.Fields.{standing, spread, six, numbers-of}
+use Rattle.session.proofs.StepLaws.{known, none, _&_, each-kind}
+use Rattle.session.proofs.EncodeLaws.{first-number, standing-spread}
 use Rattle.exports.specs.declared.Stated.{Stated}
 use Rattle.exports.specs.declared.Stated.the-variants.{Taken, Refused}
-use Rattle.exports.specs.Fields.{standing, others-zero, spread, agree, six, numbers-of, stated, on-stated}
+use Rattle.exports.specs.Fields.{others-zero, agree, stated, on-stated}
 
 -- ---- of any map
 
@@ -51,6 +54,17 @@ zero-spread m (v ∷ vs) h = by-bit (stands m) (zero-spread (m / 2) vs) h
         by-zero true e g = rw (eqb-true v 0 e, back g)
         by-zero false e g = absurd (let z : _≡_ {A = ℕ} 0 1 = cc in omega arith)
 
+-- numbers that are spread are 0 elsewhere
+spread-zero : (n m : ℕ) (vs : List ℕ) → others-zero m (spread n m vs) ≡ true
+unfolding others-zero spread
+spread-zero zero m vs = refl
+spread-zero (suc n) m vs = by-bit (stands m) refl (spread-zero n (m / 2))
+  where
+    by-bit : (b : Bool) → stands m ≡ b → ((us : List ℕ) → others-zero (m / 2) (spread n (m / 2) us) ≡ true)
+        → others-zero m (cond b (getD vs 0 0 ∷ spread n (m / 2) (drop 1 vs)) (0 ∷ spread n (m / 2) vs)) ≡ true
+    by-bit true e h = rw e (h (drop 1 vs))
+    by-bit false e h = rw e (h vs)
+
 -- ---- of a kind
 
 -- the step of a kind has this kind, and the fields that stand
@@ -63,7 +77,7 @@ module _ (p e h v s : ℕ) where
       → kind-and-fields (step-of k (standing (map-of k) (six k p e h v s))) ≡ standing (map-of k) (six k p e h v s) → Stands k p e h v s
   stands-as k f g = record { kinds = f; fields = g }
 
-  pub kind-stands : (k : ℕ) → 1 ≤ k → k ≤ 13 → Stands k p e h v s
+  pub kind-stands : (k : ℕ) → 1 ≤ k → k ≤ last-kind → Stands k p e h v s
   unfolding standing map-of step-of
   kind-stands =
       each-kind (λ (k : ℕ). Stands k p e h v s)
@@ -85,64 +99,76 @@ module _ (p e h v s : ℕ) where
 -- ---- the step of six numbers
 
 module _ (k p e h v s : ℕ) where
-  pub kind-low : k < 1 → Refused 26 ≡ stated (six k p e h v s)
+  pub kind-low : k < 1 → Refused unknown-kind ≡ stated (six k p e h v s)
   unfolding stated
   kind-low f = rw (lt-ltb k 1 f)
 
   module _ (from : 1 ≤ k) where
-    pub kind-high : 13 < k → Refused 26 ≡ stated (six k p e h v s)
+    pub kind-high : last-kind < k → Refused unknown-kind ≡ stated (six k p e h v s)
     unfolding stated
-    kind-high f = rw (le-ltb k 1 from, lt-ltb 13 k f)
+    kind-high f = rw (le-ltb k 1 from, lt-ltb last-kind k f)
 
-    module _ (to : k ≤ 13) (x : Step) (is : x ≡ step-of k (standing (map-of k) (six k p e h v s))) where
+    module _ (to : k ≤ last-kind) (x : Step) (is : x ≡ step-of k (standing (map-of k) (six k p e h v s))) where
       -- the numbers of the kind's step, which are compared
       zero-same : others-zero (map-of k) (six k p e h v s) ≡ agree (six k p e h v s) (numbers-of x)
       zero-same =
           let a = kind-stands p e h v s k from to in
           zero-agree (map-of k) (six k p e h v s) ∙ rw (is, a .kinds, a .fields)
 
-      pub stated-by : (b : Bool) → b ≡ agree (six k p e h v s) (numbers-of x) → stated (six k p e h v s) ≡ cond b (Taken x) (Refused 27)
+      pub stated-by : (b : Bool) → b ≡ agree (six k p e h v s) (numbers-of x) → stated (six k p e h v s) ≡ cond b (Taken x) (Refused wrong-fields)
       unfolding stated
-      stated-by b f = rw (le-ltb k 1 from, le-ltb 13 k to, zero-same, f, is)
+      stated-by b f = rw (le-ltb k 1 from, le-ltb last-kind k to, zero-same, f, is)
 
 -- ---- both directions
 
 -- the numbers of a step are those of that step
 pub numbers-back : (x : Step) → stated (numbers-of x) ≡ Taken x
-unfolding stated spread standing others-zero map-of step-of
-numbers-back (Assign p r) = refl
-numbers-back (Release r) = refl
-numbers-back (RequestGuard p r) = refl
-numbers-back (Read p e) = refl
-numbers-back (Write p e v) = refl
-numbers-back (Deliver n) = refl
-numbers-back (Respond n) = refl
-numbers-back (Abandon n) = refl
-numbers-back (Lose n) = refl
-numbers-back (Split e) = refl
-numbers-back (Merge e) = refl
-numbers-back (RestartTablet e) = refl
-numbers-back (RestartPlayer p) = refl
+unfolding stated
+numbers-back x =
+    let k = known x in
+    let m = map-of (kind x) in
+    rw (first-number x, le-ltb (kind x) 1 (k .from), le-ltb last-kind (kind x) (k .to), spread-zero (length widths) m (kind-and-fields x), standing-spread widths m (kind-and-fields x) (k .fields), k .same)
 
 -- and no others are
 pub only-numbers : (k p e h v s : ℕ) (x : Step) → stated (six k p e h v s) ≡ Taken x → numbers-of x ≡ six k p e h v s
 unfolding stated
-only-numbers k p e h v s x is = by-kind (ltb k 1) (ltb 13 k) refl refl is
+only-numbers k p e h v s x is = by-kind (ltb k 1) (ltb last-kind k) refl refl is
   where
-    by-zero : 1 ≤ k → k ≤ 13 → (z : Bool) → others-zero (map-of k) (six k p e h v s) ≡ z
-        → cond z (Taken (step-of k (standing (map-of k) (six k p e h v s)))) (Refused 27) ≡ Taken x → numbers-of x ≡ six k p e h v s
+    by-zero : 1 ≤ k → k ≤ last-kind → (z : Bool) → others-zero (map-of k) (six k p e h v s) ≡ z
+        → cond z (Taken (step-of k (standing (map-of k) (six k p e h v s)))) (Refused wrong-fields) ≡ Taken x → numbers-of x ≡ six k p e h v s
     by-zero from to true f g =
         let a = kind-stands p e h v s k from to in
         let same : step-of k (standing (map-of k) (six k p e h v s)) ≡ x = cc in
         rw (← same, a .kinds, a .fields) (zero-spread (map-of k) (six k p e h v s) f)
     by-zero from to false f g = absurd (let z : _≡_ {A = ℕ} 0 1 = cc in omega arith)
 
-    by-kind : (a b : Bool) → ltb k 1 ≡ a → ltb 13 k ≡ b
-        → cond (a || b) (Refused 26) (cond (others-zero (map-of k) (six k p e h v s)) (Taken (step-of k (standing (map-of k) (six k p e h v s)))) (Refused 27)) ≡ Taken x
+    by-kind : (a b : Bool) → ltb k 1 ≡ a → ltb last-kind k ≡ b
+        → cond (a || b) (Refused unknown-kind) (cond (others-zero (map-of k) (six k p e h v s)) (Taken (step-of k (standing (map-of k) (six k p e h v s)))) (Refused wrong-fields)) ≡ Taken x
         → numbers-of x ≡ six k p e h v s
     by-kind true b f g taken = absurd (let z : _≡_ {A = ℕ} 0 1 = cc in omega arith)
     by-kind false true f g taken = absurd (let z : _≡_ {A = ℕ} 0 1 = cc in omega arith)
-    by-kind false false f g taken = by-zero (ltb-false k 1 f) (ltb-false 13 k g) (others-zero (map-of k) (six k p e h v s)) refl taken
+    by-kind false false f g taken = by-zero (ltb-false k 1 f) (ltb-false last-kind k g) (others-zero (map-of k) (six k p e h v s)) refl taken
+
+-- ---- the entry of a step is the third of its numbers, so that it fits where that does
+
+fits-by : (x : Step) → getD (numbers-of x) 2 0 < 256 → Fits x
+unfolding spread map-of
+fits-by (Assign p r) h = tt
+fits-by (Release r) h = tt
+fits-by (RequestGuard p r) h = tt
+fits-by (Read p e) h = h
+fits-by (Write p e v) h = h
+fits-by (Deliver n) h = tt
+fits-by (Respond n) h = tt
+fits-by (Abandon n) h = tt
+fits-by (Lose n) h = tt
+fits-by (Split e) h = h
+fits-by (Merge e) h = h
+fits-by (RestartTablet e) h = h
+fits-by (RestartPlayer p) h = tt
+
+pub stated-fits : (k p e h v s : ℕ) (x : Step) → e < 256 → stated (six k p e h v s) ≡ Taken x → Fits x
+stated-fits k p e h v s x b is = fits-by x (rw (only-numbers k p e h v s x is) b)
 
 -- ---- by cases
 

@@ -1,3 +1,5 @@
--- Laws: a step by its six numbers (FieldLaws), and the numbers of a record (RecordLaws).
+-- Laws: a step by its six numbers (FieldLaws), a call by them (CallLaws), the numbers of a record (RecordLaws), and what a refusal leaves (Refusals).
 pub mod FieldLaws
+pub mod CallLaws
 pub mod RecordLaws
+pub mod Refusals

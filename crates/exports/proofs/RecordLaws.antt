@@ -11,10 +11,11 @@ use Rattle.session.specs.declared.Decoded.{Decoded}
 use Rattle.session.specs.declared.Decoded.the-variants.{Record, Refused}
 use Rattle.session.specs.Layout.{widths, stands, fields-length, record-length}
 use Rattle.session.specs.Records.{map-at, decode, encode}
+use Rattle.session.specs.Fields.{six, numbers-of}
 use Rattle.session.proofs.Tested.{Outcome, refuses, accepts, outcome}
 use Rattle.session.proofs.RoundTrip.{read-back}
 use Rattle.exports.specs.declared.Stated.the-variants.{Taken}
-use Rattle.exports.specs.Fields.{six, numbers-of, stated}
+use Rattle.exports.specs.Fields.{stated}
 use Rattle.exports.specs.Calls.{decoded}
 use Rattle.exports.proofs.FieldLaws.{numbers-back, only-numbers}
 

@@ -3,19 +3,21 @@
 use mathlib.Core.List.{List, [], _∷_}
 use Prim.Native.Nat.{ℕ}
 use Rattle.store.specs.declared.Reply.{Reply}
+use Rattle.players.specs.declared.Step.{Step}
 use Rattle.players.specs.Replies.{reply, refusal}
 use Rattle.players.specs.Calls.{Done, left}
 use Rattle.players.specs.Played.{taken}
 use Rattle.session.specs.declared.Decoded.{Decoded}
 use Rattle.session.specs.declared.Decoded.the-variants.{Record, Refused}
 use Rattle.session.specs.Records.{encode}
+use Rattle.session.specs.Fields.{numbers-of}
 use Rattle.session.specs.Written.{Wrote, wrote, written}
 use Rattle.session.specs.declared.Report.{Report}
 use Rattle.session.specs.Runs.{report}
 use Rattle.exports.specs.declared.Answer.{Answer}
 use Rattle.exports.specs.declared.Ended.{Ended}
 use Rattle.exports.specs.declared.RecordFields.{RecordFields}
-use Rattle.exports.specs.Fields.{numbers-of, stated, on-stated}
+use Rattle.exports.specs.Fields.{stated, on-stated}
 
 -- the reply that an answer is
 abbrev pub reply-of : Answer → Reply
@@ -28,6 +30,10 @@ report-of x = report (x .why) (x .records) (x .place)
 -- the step of these numbers taken on the tables, or refused before they are looked at
 abbrev pub stepped : List ℕ → List ℕ → List ℕ → Done
 stepped vs st t = on-stated (stated vs) (λ x. taken x st t) (λ n. left (refusal n) st t)
+
+-- the step that such a call takes: none where the numbers stand for none
+abbrev pub step-taken : List ℕ → List Step
+step-taken vs = on-stated (stated vs) (λ x. x ∷ []) (λ n. [])
 
 -- the eight numbers of what stands at a place of a session
 abbrev pub eight : RecordFields → List ℕ

@@ -5,9 +5,10 @@ use mathlib.Core.List.{[], _∷_, map}
 use Rattle.players.specs.declared.Step.the-variants.{Assign, Release, Write, Deliver, RestartPlayer}
 use Rattle.players.specs.Cases.{range}
 use Rattle.session.specs.Layout.{record-length, fields-length, fields, map-of}
-use Rattle.session.specs.Records.{step-of, tested, decode}
+use Rattle.session.specs.Records.{unknown-kind, wrong-fields, step-of, tested, decode}
+use Rattle.session.specs.Fields.{standing, spread, six}
 use Rattle.exports.specs.declared.Stated.the-variants.{Taken, Refused}
-use Rattle.exports.specs.Fields.{standing, others-zero, spread, six, stated}
+use Rattle.exports.specs.Fields.{others-zero, stated}
 use Rattle.exports.specs.Calls.{decoded}
 
 -- steps, also ones that a table refuses: player 9, an empty range
@@ -20,7 +21,7 @@ taken-case = refl
 -- kinds 0, 14 and 255; then a field that the kind lacks: a release's player, a read's high, a write's serial, a split's value
 pub refused-case :
     map stated (six 0 0 0 0 0 0 ∷ six 14 0 0 0 0 0 ∷ six 255 1 1 1 1 1 ∷ six 2 1 40 60 0 0 ∷ six 4 1 45 46 0 0 ∷ six 5 1 45 0 7 1 ∷ six 10 0 45 0 1 0 ∷ [])
-    ≡ Refused 26 ∷ Refused 26 ∷ Refused 26 ∷ Refused 27 ∷ Refused 27 ∷ Refused 27 ∷ Refused 27 ∷ []
+    ≡ Refused unknown-kind ∷ Refused unknown-kind ∷ Refused unknown-kind ∷ Refused wrong-fields ∷ Refused wrong-fields ∷ Refused wrong-fields ∷ Refused wrong-fields ∷ []
 unfolding stated standing others-zero map-of step-of
 refused-case = refl
 

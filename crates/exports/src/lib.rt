@@ -41,16 +41,6 @@ pub struct Ended {
     pub place: u32,
 }
 
-// A step by its fields, those that its kind lacks 0.
-struct Fields {
-    kind: u8,
-    player: u8,
-    entry: u8,
-    high: u16,
-    value: u32,
-    serial: u32,
-}
-
 // The step of some fields, or the number of a refusal.
 enum Stated {
     Taken(Step),

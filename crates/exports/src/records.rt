@@ -1,19 +1,19 @@
 // Records and the session's mark.
 use crate::Answer;
-use crate::Fields;
 use crate::RecordFields;
 use crate::Stated;
 use crate::given;
 use crate::refuse;
 use crate::step_fields;
 use session::Decoded;
+use session::Fields;
 ghost use mathlib.Core.Path.{_≡_};
 ghost use mathlib.Core.List.{_∷_};
 ghost use Rattle.session.specs.Mark.{mark, marked};
 ghost use Rattle.session.specs.Records.{decode};
 ghost use Rattle.session.specs.Written.{wrote, written};
 ghost use Rattle.exports.specs.Calls.{reply-of, eight, decoded, recorded};
-ghost use Rattle.exports.specs.Fields.{six, numbers};
+ghost use Rattle.session.specs.Fields.{six, numbers};
 
 fn wide8(x: u8) -> u32
     ensures { λ r. ⌜ r ≡ x ⌝ }
@@ -32,7 +32,7 @@ fn record_with(length: u32, f: Fields) -> RecordFields
     ensures { λ r. ⌜ eight r ≡ 0 ∷ length ∷ numbers f ⌝ }
 {
     RecordFields {
-        code: 0,
+        code: store::codes::DONE,
         length,
         kind: wide8(f.kind),
         player: wide8(f.player),
@@ -51,7 +51,7 @@ pub extern "C" fn famdrize_decode(part: &[u8]) -> RecordFields
     let found = session::records::decode(part);
     match found {
         Decoded::Record { step, length } => {
-            record_with(length as u32, step_fields::fields_of(step))
+            record_with(length as u32, session::step_fields::fields_of(step))
         }
         Decoded::Refused(code) => RecordFields {
             code,

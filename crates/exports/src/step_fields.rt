@@ -1,17 +1,21 @@
 // A step by its fields.
-use crate::Fields;
 use crate::Stated;
 use players::Step;
+use session::Fields;
+use session::codes;
+use session::kinds;
+use session::step_fields::fields_of;
 use store::Range;
 ghost use mathlib.Core.Path.{_≡_};
 ghost use Prim.Native.Nat.{_≤_};
-ghost use Rattle.session.specs.Layout.{map-of};
+ghost use Rattle.session.specs.Layout.{last-kind, map-of};
 ghost use Rattle.session.specs.Records.{step-of};
-ghost use Rattle.exports.specs.Fields.{standing, agree, six, numbers, numbers-of, stated};
+ghost use Rattle.session.specs.Fields.{standing, numbers};
+ghost use Rattle.exports.specs.Fields.{agree, stated};
 
 // The step of the kind with its fields; the others are passed over.
 fn step_with(f: Fields) -> Step
-    requires { ⌜ (1 ≤ f .kind) × (f .kind ≤ 13) ⌝ }
+    requires { ⌜ (1 ≤ f .kind) × (f .kind ≤ last-kind) ⌝ }
     ensures { λ r. ⌜ r ≡ step-of (f .kind) (standing (map-of (f .kind)) (numbers f)) ⌝ }
 {
     let kind = f.kind;
@@ -23,90 +27,23 @@ fn step_with(f: Fields) -> Step
         high: f.high,
     };
     match kind {
-        1 => Step::Assign { player, range },
-        2 => Step::Release { range },
-        3 => Step::RequestGuard { player, range },
-        4 => Step::Read { player, entry },
-        5 => Step::Write {
+        kinds::ASSIGN => Step::Assign { player, range },
+        kinds::RELEASE => Step::Release { range },
+        kinds::REQUEST_GUARD => Step::RequestGuard { player, range },
+        kinds::READ => Step::Read { player, entry },
+        kinds::WRITE => Step::Write {
             player,
             entry,
             value: f.value,
         },
-        6 => Step::Deliver { serial },
-        7 => Step::Respond { serial },
-        8 => Step::Abandon { serial },
-        9 => Step::Lose { serial },
-        10 => Step::Split { entry },
-        11 => Step::Merge { entry },
-        12 => Step::RestartTablet { entry },
+        kinds::DELIVER => Step::Deliver { serial },
+        kinds::RESPOND => Step::Respond { serial },
+        kinds::ABANDON => Step::Abandon { serial },
+        kinds::LOSE => Step::Lose { serial },
+        kinds::SPLIT => Step::Split { entry },
+        kinds::MERGE => Step::Merge { entry },
+        kinds::RESTART_TABLET => Step::RestartTablet { entry },
         _ => Step::RestartPlayer { player },
-    }
-}
-
-// The fields of a kind with a range.
-fn ranged(kind: u8, player: u8, range: Range) -> Fields
-    ensures { λ r. ⌜ numbers r ≡ six kind player (range .low) (range .high) 0 0 ⌝ }
-{
-    Fields {
-        kind,
-        player,
-        entry: range.low,
-        high: range.high,
-        value: 0,
-        serial: 0,
-    }
-}
-
-// The fields of a kind with a serial alone.
-fn of_serial(kind: u8, serial: u32) -> Fields
-    ensures { λ r. ⌜ numbers r ≡ six kind 0 0 0 0 serial ⌝ }
-{
-    Fields {
-        kind,
-        player: 0,
-        entry: 0,
-        high: 0,
-        value: 0,
-        serial,
-    }
-}
-
-// The fields of a kind with a player, an entry and a value, or some of these.
-fn of_entry(kind: u8, player: u8, entry: u8, value: u32) -> Fields
-    ensures { λ r. ⌜ numbers r ≡ six kind player entry 0 value 0 ⌝ }
-{
-    Fields {
-        kind,
-        player,
-        entry,
-        high: 0,
-        value,
-        serial: 0,
-    }
-}
-
-// The fields of a step.
-pub(crate) fn fields_of(step: Step) -> Fields
-    ensures { λ r. ⌜ numbers r ≡ numbers-of step ⌝ }
-{
-    match step {
-        Step::Assign { player, range } => ranged(1, player, range),
-        Step::Release { range } => ranged(2, 0, range),
-        Step::RequestGuard { player, range } => ranged(3, player, range),
-        Step::Read { player, entry } => of_entry(4, player, entry, 0),
-        Step::Write {
-            player,
-            entry,
-            value,
-        } => of_entry(5, player, entry, value),
-        Step::Deliver { serial } => of_serial(6, serial),
-        Step::Respond { serial } => of_serial(7, serial),
-        Step::Abandon { serial } => of_serial(8, serial),
-        Step::Lose { serial } => of_serial(9, serial),
-        Step::Split { entry } => of_entry(10, 0, entry, 0),
-        Step::Merge { entry } => of_entry(11, 0, entry, 0),
-        Step::RestartTablet { entry } => of_entry(12, 0, entry, 0),
-        Step::RestartPlayer { player } => of_entry(13, player, 0, 0),
     }
 }
 
@@ -136,16 +73,16 @@ fn same(f: Fields, g: Fields) -> bool
 pub(crate) fn step_of(f: Fields) -> Stated
     ensures { λ r. ⌜ r ≡ stated (numbers f) ⌝ }
 {
-    if f.kind < 1 {
-        return Stated::Refused(26);
+    if f.kind < kinds::FIRST {
+        return Stated::Refused(codes::UNKNOWN_KIND);
     }
-    if 13 < f.kind {
-        return Stated::Refused(26);
+    if kinds::LAST < f.kind {
+        return Stated::Refused(codes::UNKNOWN_KIND);
     }
     let step = step_with(f);
     if same(f, fields_of(step)) {
         Stated::Taken(step)
     } else {
-        Stated::Refused(27)
+        Stated::Refused(codes::WRONG_FIELDS)
     }
 }

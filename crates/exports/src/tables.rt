@@ -1,14 +1,14 @@
 // The two tables: fresh, their test, and a step.
 use crate::Answer;
-use crate::Fields;
 use crate::Stated;
 use crate::given;
 use crate::refuse;
 use crate::step_fields;
+use session::Fields;
 ghost use mathlib.Core.Path.{_≡_};
 ghost use Rattle.players.specs.Calls.{left, checked, made-fresh};
 ghost use Rattle.exports.specs.Calls.{reply-of, stepped};
-ghost use Rattle.exports.specs.Fields.{six};
+ghost use Rattle.session.specs.Fields.{six};
 
 // Makes both tables fresh.
 #[no_mangle]

@@ -1,5 +1,5 @@
 -- The claim about the run itself: two lent tables, made fresh by the call `players::fresh`, and a call of `steps::running::run` over any session bytes, which does what its contract says
--- (crate runs, specs/Calls: `ran`), word for word. From bytes to the claim nothing stands between.
+-- (crate steps, specs/RunCalls: `ran`), word for word. From bytes to the claim nothing stands between.
 -- Assumes nothing.
 use mathlib.Core.Path.{_≡_}
 use mathlib.Core.Bool.{true}

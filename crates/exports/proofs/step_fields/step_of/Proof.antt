@@ -3,7 +3,8 @@
 use mathlib.Core.Path.{_∙_, sym, ap}
 use mathlib.Core.Bool.{true, false}
 use native.Mathlib.Omega.{arith}
-use Rattle.exports.specs.Fields.{agree, numbers}
+use Rattle.session.specs.Fields.{numbers}
+use Rattle.exports.specs.Fields.{agree}
 use Rattle.exports.proofs.FieldLaws.{kind-low, kind-high, stated-by}
 use borrow.Author.Needs.{needs}
 use Rattle.exports.proofs.step_fields.step_of.Statement.{statement}

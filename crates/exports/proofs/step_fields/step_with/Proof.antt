@@ -4,7 +4,7 @@ use native.Mathlib.Nat.{le-antisymm}
 use Rattle.session.specs.Layout.{map-of}
 use Rattle.session.specs.Records.{step-of}
 use Rattle.session.proofs.StepLaws.{beyond}
-use Rattle.exports.specs.Fields.{standing}
+use Rattle.session.specs.Fields.{standing}
 use Rattle.exports.proofs.step_fields.step_with.Statement.{statement}
 use Rattle.exports.proofs.step_fields.step_with.Tie as tie
 
