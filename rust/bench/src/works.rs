@@ -1,16 +1,16 @@
 //! What is measured: start tables, and a session or a call on them.
 
-use calls::{Fields, Library};
-use compare::oracle::fields_of;
+use calls::{Fields, Library, Range, Step};
 use model::codec::{self, MARK, MAX_SESSION};
 use model::faults::NoFault;
 use model::generate::Profile;
+use model::numbers::MAX_SERIAL;
 use model::prng::Prng;
 use model::rules;
-use model::state::{State, MAX_SERIAL};
-use model::step::{Range, Step};
+use model::state::State;
 use model::tables::tables_of;
 use model::trial::play;
+use port::Port;
 
 /// One piece of work on a copy of its start tables.
 pub struct Work {
@@ -91,7 +91,7 @@ impl Work {
         if let Act::Run { session, .. } = &self.act {
             let mut rest = &session[MARK.len()..];
             while let (true, Ok((step, length))) = (steps.len() < 64, codec::decode(rest)) {
-                steps.push(fields_of(step));
+                steps.push(Fields::from(step));
                 rest = &rest[length..];
             }
         }
@@ -270,7 +270,7 @@ pub fn sessions() -> Vec<Work> {
     let mut state = State::fresh();
     let mut bytes = MARK.len();
     'full: loop {
-        let mut profile = Profile::draw(&mut rng);
+        let mut profile = Profile::draw(&mut rng, Port.kinds());
         for _ in 0..200 {
             let step = profile.next_step(&mut rng, &state);
             bytes += codec::record(step).len();
@@ -324,9 +324,9 @@ pub fn calls() -> Vec<Work> {
         respond(3),
     ];
     let (_, cached) = play(&memory, &NoFault);
-    let read = fields_of(memory[4]);
-    let split = fields_of(Step::Split { entry: 9 });
-    let merge = fields_of(Step::Merge { entry: 9 });
+    let read = Fields::from(memory[4]);
+    let split = Fields::from(Step::Split { entry: 9 });
+    let merge = Fields::from(Step::Merge { entry: 9 });
     vec![
         Work::new(
             "step: 4 read, from memory",

@@ -7,13 +7,37 @@
 #![forbid(unsafe_code)]
 #![warn(missing_docs)]
 
+mod step;
+
+pub use step::{bit, has, Fields, Range, Step, KINDS, MAPS, UNKNOWN_KIND, WRONG_FIELDS};
+
 /// A code and two numbers.
-#[derive(Clone, Copy, Debug, Default, PartialEq, Eq)]
+#[derive(Clone, Copy, Debug, Default, PartialEq, Eq, Hash)]
 #[allow(missing_docs)]
 pub struct Reply {
     pub code: u32,
     pub a: u32,
     pub b: u32,
+}
+
+impl Reply {
+    /// "0: done, zeros."
+    pub const DONE: Reply = Reply::new(0, 0, 0);
+
+    /// The reply with this code and these two numbers.
+    pub const fn new(code: u32, a: u32, b: u32) -> Reply {
+        Reply { code, a, b }
+    }
+
+    /// A refusal: its number and two zeros.
+    pub const fn refused(number: u32) -> Reply {
+        Reply::new(number, 0, 0)
+    }
+
+    /// Whether the code is that of a refusal: the least is "21 a table of the wrong length".
+    pub const fn is_refusal(self) -> bool {
+        self.code >= 21
+    }
 }
 
 /// What a run reports: why it stopped, the number of records taken, and the byte place just after
@@ -24,6 +48,17 @@ pub struct Report {
     pub why: u32,
     pub records: u32,
     pub place: u32,
+}
+
+impl Report {
+    /// The report of a refused run: its number and two zeros.
+    pub const fn refused(number: u32) -> Report {
+        Report {
+            why: number,
+            records: 0,
+            place: 0,
+        }
+    }
 }
 
 /// What stands at the start of some bytes: code 0 with the record's length and fields, or a
@@ -50,8 +85,9 @@ impl Decoded {
         }
     }
 
-    /// A record of this length with these fields.
-    pub fn record(length: usize, fields: Fields) -> Decoded {
+    /// A record of this length, with the step's fields.
+    pub fn record(length: usize, step: Step) -> Decoded {
+        let fields = Fields::from(step);
         Decoded {
             code: 0,
             length: length as u32,
@@ -65,20 +101,8 @@ impl Decoded {
     }
 }
 
-/// A step by its fields, at the widths of a record. Those that the kind lacks are 0.
-#[derive(Clone, Copy, Debug, Default, PartialEq, Eq)]
-#[allow(missing_docs)]
-pub struct Fields {
-    pub kind: u8,
-    pub player: u8,
-    /// The entry, or a range's low.
-    pub entry: u8,
-    pub high: u16,
-    pub value: u32,
-    pub serial: u32,
-}
-
-/// One place of the lent list of requests.
+/// One place of the lent list of requests. Its marks are numbers: a mark stands where its number is
+/// not 0.
 #[derive(Clone, Copy, Debug, Default, PartialEq, Eq)]
 #[allow(missing_docs)]
 pub struct Request {
@@ -89,20 +113,25 @@ pub struct Request {
     pub high: u16,
     pub value: u32,
     pub guard: u32,
-    pub overlapped: bool,
-    pub delivered: bool,
-    pub abandoned: bool,
+    pub overlapped: u8,
+    pub delivered: u8,
+    pub abandoned: u8,
     pub first: u32,
     pub second: u32,
 }
 
 /// The calls. Slices of any length and contents are taken.
 pub trait Library {
+    /// The kinds that it knows are 1 up to this one; a later kind is 26 to it.
+    fn kinds(&self) -> u8 {
+        KINDS
+    }
+
     /// Makes both tables fresh.
     fn fresh(&self, store: &mut [u32], players: &mut [u32]) -> Reply;
     /// Whether both tables keep the rules.
     fn check(&self, store: &[u32], players: &[u32]) -> Reply;
-    /// One step. A kind that is not 1 to 13 is 26, a field that the kind lacks and that is not 0 is
+    /// One step. A kind that is not in force is 26, a field that the kind lacks and that is not 0 is
     /// 27; both come before the tests of the tables.
     fn step(&self, store: &mut [u32], players: &mut [u32], step: Fields) -> Reply;
     /// A run over a session.

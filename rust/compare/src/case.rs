@@ -1,12 +1,12 @@
 //! One case: start tables and what is called; and how library and model differ on it.
 
-use calls::{Fields, Library, Reply, Request};
+use calls::{Fields, Library, Reply, Request, Step, KINDS};
+use model::codec::{self, MARK};
 use model::rules;
-use model::step::Step;
 use model::tables::{self, tables_of};
 
 use crate::cells::{Call, Counts};
-use crate::oracle::{fields_of, reply_of, RIGHT};
+use crate::oracle::RIGHT;
 
 /// What is called.
 #[derive(Clone, Debug)]
@@ -31,6 +31,40 @@ pub enum Act {
     Marked(Vec<u8>),
     Waiting(Vec<Request>, u8),
     Store(StoreCall),
+}
+
+impl Act {
+    /// Whether it has no kind in force but the first ones, 1 up to `kinds`.
+    fn is_known(&self, kinds: u8) -> bool {
+        let known = |kind: u8| kind <= kinds || kind > KINDS;
+        // The kind of the record that stands at the start of the bytes, 0 where there is none.
+        let kind_at = |part: &[u8]| match part {
+            [map, kind, ..] if map % 2 == 1 => *kind,
+            _ => 0,
+        };
+        match self {
+            Act::Steps(steps) => steps.iter().all(|step| known(step.kind())),
+            Act::Fields(fields) | Act::Encode(fields, _) => known(fields.kind),
+            Act::Decode(part) => known(kind_at(part)),
+            Act::Run { session, .. } => {
+                let mut rest = session.get(MARK.len()..).unwrap_or(&[]);
+                while let (true, Ok((_, length))) = (known(kind_at(rest)), codec::decode(rest)) {
+                    rest = &rest[length..];
+                }
+                known(kind_at(rest))
+            }
+            _ => true,
+        }
+    }
+}
+
+/// The kind if it is in force, else 0.
+fn in_force(kind: u8) -> u8 {
+    if kind <= KINDS {
+        kind
+    } else {
+        0
+    }
 }
 
 /// A call of the store used alone.
@@ -131,8 +165,12 @@ impl Case {
         }
     }
 
-    /// How library and model differ on this case, if they do. The model's replies are counted.
+    /// How library and model differ on this case, if they do. The model's replies are counted. A case
+    /// with a kind in force that the library does not know is passed over.
     pub fn differs(&self, library: &impl Library, counts: &mut Counts) -> Option<Difference> {
+        if !self.act.is_known(library.kinds()) {
+            return None;
+        }
         let (after, what) = match &self.act {
             Act::Steps(steps) => return self.steps_differ(steps, library, counts),
             _ => (0, self.call_differs(library, counts)?),
@@ -157,16 +195,13 @@ impl Case {
                     if !reply.is_refusal() {
                         right = tables_of(state);
                     }
-                    reply_of(reply)
+                    reply
                 }
-                Err(error) => Reply {
-                    code: error.refusal().number(),
-                    ..Reply::default()
-                },
+                Err(error) => Reply::from(error.refusal()),
             };
             counts.note(Call::Step(step.kind()), model.code);
             counts.steps += 1;
-            let said = library.step(&mut store, &mut players, fields_of(step));
+            let said = library.step(&mut store, &mut players, step.into());
             let what = replies_differ(said, model)
                 .or_else(|| first_difference("store's table, word", &store, &right.0))
                 .or_else(|| first_difference("players' table, word", &players, &right.1));
@@ -199,8 +234,7 @@ impl Case {
             }
             Act::Fields(fields) => {
                 let expected = model.step(&mut right.0, &mut right.1, *fields);
-                let kind = if fields.kind <= 13 { fields.kind } else { 0 };
-                counts.note(Call::Step(kind), expected.code);
+                counts.note(Call::Step(in_force(fields.kind)), expected.code);
                 counts.steps += 1;
                 replies_differ(library.step(&mut store, &mut players, *fields), expected)
             }
@@ -228,8 +262,7 @@ impl Case {
             Act::Encode(fields, bytes) => {
                 let (mut said, mut expected) = (poisoned_bytes(*bytes), poisoned_bytes(*bytes));
                 let reply = model.encode(*fields, &mut expected);
-                let kind = if fields.kind <= 13 { fields.kind } else { 0 };
-                counts.note(Call::Encode(kind), reply.code);
+                counts.note(Call::Encode(in_force(fields.kind)), reply.code);
                 replies_differ(library.encode(*fields, &mut said), reply)
                     .or_else(|| first_difference("buffer, byte", &said, &expected))
             }
@@ -287,5 +320,53 @@ fn on_store(library: &impl Library, store: &mut [u32], call: StoreCall) -> (Call
         StoreCall::Split { entry } => (Call::StoreSplit, library.store_split(store, entry)),
         StoreCall::Merge { entry } => (Call::StoreMerge, library.store_merge(store, entry)),
         StoreCall::Restart { entry } => (Call::StoreRestart, library.store_restart(store, entry)),
+    }
+}
+
+#[cfg(test)]
+mod tests {
+    use super::*;
+
+    /// A library that knows the kinds 1 to 9 is compared on those, and on kinds that are not in force.
+    #[test]
+    fn the_first_kinds_alone() {
+        let [lose, split] = [Step::Lose { serial: 1 }, Step::Split { entry: 1 }];
+        let fields = |kind| Fields {
+            kind,
+            ..Fields::default()
+        };
+        let run = |session: Vec<u8>| Act::Run {
+            session,
+            budget: 9,
+            list: 9,
+        };
+        let mut behind_damage = codec::session(&[lose]);
+        behind_damage.push(0x40);
+        behind_damage.extend(codec::record(split));
+        for act in [
+            Act::Check,
+            Act::Steps(vec![lose]),
+            Act::Fields(fields(9)),
+            Act::Fields(fields(KINDS + 1)),
+            Act::Encode(fields(0), 8),
+            Act::Decode(codec::record(lose)),
+            Act::Decode(vec![0x02, 10]),
+            run(vec![]),
+            run(codec::session(&[lose, lose])),
+            run(behind_damage),
+        ] {
+            assert!(act.is_known(9), "{act:?}");
+        }
+        for act in [
+            Act::Steps(vec![lose, split]),
+            Act::Fields(fields(10)),
+            Act::Encode(fields(KINDS), 8),
+            Act::Decode(vec![0x01, 10]),
+            run(codec::session(&[lose, split])),
+            run(codec::session(&[split])[..6].to_vec()),
+        ] {
+            assert!(!act.is_known(9), "{act:?}");
+            assert!(act.is_known(KINDS), "{act:?}");
+        }
     }
 }

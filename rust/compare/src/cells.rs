@@ -1,20 +1,22 @@
 //! Which replies each call can give, and how often each was seen.
 //!
-//! The lists are written down from document 01: "Replies" ("Step 1 to 5 give 1 unless read from
-//! memory; 7 gives 3 to 8; the rest 0"), "Who can cause a refusal", and for the fields of a step the
-//! header of the exported calls (26, and 27 for a field that the kind lacks).
+//! The lists are written down from document 01 ("Replies" and "Who can cause a refusal"; those of
+//! each kind of step stand in the model), and for the fields of a step from the header of the
+//! exported calls (26, and 27 for a field that the kind lacks).
 
+use calls::KINDS;
+use model::reply::REPLIES;
 use model::table_rules::TableRule;
 
 /// A call, for a step also its kind.
 #[derive(Clone, Copy, Debug, PartialEq, Eq)]
 #[allow(missing_docs)]
 pub enum Call {
-    /// A step of this kind, 1 to 13; 0 stands for all others.
+    /// A step of this kind; 0 stands for those not in force.
     Step(u8),
     Run,
     Decode,
-    /// A record of this kind written, 1 to 13; 0 stands for all others.
+    /// A record of this kind written; 0 stands for those not in force.
     Encode(u8),
     PutMark,
     Marked,
@@ -32,50 +34,23 @@ pub enum Call {
     StoreRestart,
 }
 
-/// What each call can reply. A run's reply is why it stopped; [`Call::Marked`] gives 0 or 1; the
-/// two of `store_write` and `store_set_guard` that differ in the first number are cells of
+/// What a step of each kind can reply beside what its rules give: the tests of the tables, and 27.
+const OF_EVERY_STEP: [u32; 3] = [21, 22, 27];
+
+/// "36 a buffer shorter than the record to be written", and 27.
+const OF_EVERY_RECORD: [u32; 3] = [0, 27, 36];
+
+/// What each other call can reply. A run's reply is why it stopped; [`Call::Marked`] gives 0 or 1;
+/// the two of `store_write` and `store_set_guard` that differ in the first number are cells of
 /// [`OUTCOMES`].
-pub const CELLS: &[(Call, &[u32])] = &[
-    // "1 assign, 2 release: take a serial": 1; 28 player, range; 34. Kinds 1 and 2 test no owner.
-    (Call::Step(1), &[1, 21, 22, 27, 28, 34]),
-    (Call::Step(2), &[1, 21, 22, 27, 28, 34]),
-    // "29 not owner of every entry (steps 3, 5)"; "31 ... (step 3)"; "33 a row is needed"; 34.
-    (Call::Step(3), &[1, 21, 22, 27, 28, 29, 31, 33, 34]),
-    // "Any player may read": no 29; from memory 2.
-    (Call::Step(4), &[1, 2, 21, 22, 27, 28, 33, 34]),
-    // "30 no live guard (step 5)".
-    (Call::Step(5), &[1, 21, 22, 27, 28, 29, 30, 33, 34]),
-    // "32 no row that this step fits (6 not arrived; 7 arrived and waiting; 8 waiting; 9 given up)".
-    (Call::Step(6), &[0, 21, 22, 27, 32]),
-    (Call::Step(7), &[3, 4, 5, 6, 7, 8, 21, 22, 27, 32]),
-    (Call::Step(8), &[0, 21, 22, 27, 32]),
-    (Call::Step(9), &[0, 21, 22, 27, 32]),
-    // "28 ... split or merge at entry 0"; "35 split at a border, merge where none is".
-    (Call::Step(10), &[0, 21, 22, 27, 28, 35]),
-    (Call::Step(11), &[0, 21, 22, 27, 28, 35]),
-    (Call::Step(12), &[0, 21, 22, 27]),
-    (Call::Step(13), &[0, 21, 22, 27, 28]),
+const OTHERS: &[(Call, &[u32])] = &[
     // "26 kind not 1 to 13".
     (Call::Step(0), &[26]),
+    (Call::Encode(0), &[26]),
     // "Why: 0 at the end, else 9 ..., else the record's refusal"; "For a run: 21, 22, 37, 23".
     (Call::Run, &[0, 9, 21, 22, 23, 24, 25, 26, 27, 37]),
     // "For a record: 24 if empty, 25, 24, 27 if kind is missing, 26, 27."
     (Call::Decode, &[0, 24, 25, 26, 27]),
-    // "36 a buffer shorter than the record to be written".
-    (Call::Encode(1), &[0, 27, 36]),
-    (Call::Encode(2), &[0, 27, 36]),
-    (Call::Encode(3), &[0, 27, 36]),
-    (Call::Encode(4), &[0, 27, 36]),
-    (Call::Encode(5), &[0, 27, 36]),
-    (Call::Encode(6), &[0, 27, 36]),
-    (Call::Encode(7), &[0, 27, 36]),
-    (Call::Encode(8), &[0, 27, 36]),
-    (Call::Encode(9), &[0, 27, 36]),
-    (Call::Encode(10), &[0, 27, 36]),
-    (Call::Encode(11), &[0, 27, 36]),
-    (Call::Encode(12), &[0, 27, 36]),
-    (Call::Encode(13), &[0, 27, 36]),
-    (Call::Encode(0), &[26]),
     (Call::PutMark, &[0, 36]),
     (Call::Marked, &[0, 1]),
     // "21 unless 64 places, then 28; nothing else is tested".
@@ -106,10 +81,28 @@ pub const OUTCOMES: &[(Call, u32)] = &[
 /// One more than the largest number of a reply.
 const CODES: usize = 38;
 
+/// What a call can reply, and how often it gave each reply.
+#[derive(Clone, Debug)]
+struct Row {
+    call: Call,
+    can: Vec<u32>,
+    seen: [u64; CODES],
+}
+
+impl Row {
+    fn new(call: Call, can: Vec<u32>) -> Row {
+        Row {
+            call,
+            can,
+            seen: [0; CODES],
+        }
+    }
+}
+
 /// How often each reply was seen.
 #[derive(Clone, Debug)]
 pub struct Counts {
-    cells: Vec<[u64; CODES]>,
+    rows: Vec<Row>,
     outcomes: [u64; 4],
     rules: [u64; TableRule::ALL.len()],
     /// Steps played, one by one or in runs.
@@ -120,8 +113,17 @@ pub struct Counts {
 
 impl Default for Counts {
     fn default() -> Counts {
+        let steps = (1..).zip(REPLIES).map(|(kind, replies)| {
+            let can = [replies, &OF_EVERY_STEP].concat();
+            Row::new(Call::Step(kind), can)
+        });
+        let records =
+            (1..=KINDS).map(|kind| Row::new(Call::Encode(kind), OF_EVERY_RECORD.to_vec()));
+        let others = OTHERS
+            .iter()
+            .map(|&(call, can)| Row::new(call, can.to_vec()));
         Counts {
-            cells: vec![[0; CODES]; CELLS.len()],
+            rows: steps.chain(records).chain(others).collect(),
             outcomes: [0; 4],
             rules: [0; TableRule::ALL.len()],
             steps: 0,
@@ -131,14 +133,19 @@ impl Default for Counts {
 }
 
 impl Counts {
+    /// The place of a call's row.
+    fn row(&self, call: Call) -> Option<usize> {
+        match call {
+            // The steps stand first, so that the row is found at once.
+            Call::Step(kind @ 1..=KINDS) => Some(usize::from(kind) - 1),
+            other => self.rows.iter().position(|row| row.call == other),
+        }
+    }
+
     /// A reply of a call.
     pub fn note(&mut self, call: Call, code: u32) {
-        let row = match call {
-            // The steps stand first, so that the row is found at once.
-            Call::Step(kind @ 1..=13) => Some(usize::from(kind) - 1),
-            other => CELLS.iter().position(|(call, _)| *call == other),
-        };
-        if let Some(count) = row.and_then(|row| self.cells[row].get_mut(code as usize)) {
+        let row = self.row(call).map(|at| &mut self.rows[at]);
+        if let Some(count) = row.and_then(|row| row.seen.get_mut(code as usize)) {
             *count += 1;
         }
     }
@@ -159,23 +166,25 @@ impl Counts {
 
     /// How often a call gave this reply.
     pub fn seen(&self, call: Call, code: u32) -> u64 {
-        CELLS
-            .iter()
-            .position(|(other, _)| *other == call)
-            .map_or(0, |row| self.cells[row][code as usize])
+        self.row(call)
+            .map_or(0, |at| self.rows[at].seen[code as usize])
     }
 
     /// The table of counts, and what is wrong with it: cells that can occur and stayed empty, and
     /// replies that no sentence gives. The third is the number of cells that are as they should be.
-    pub fn table(&self) -> (String, Vec<String>, usize) {
+    /// Kinds after `kinds` are left out.
+    pub fn table(&self, kinds: u8) -> (String, Vec<String>, usize) {
         let mut text = String::from("call             reply: count ...\n");
         let mut wrong = Vec::new();
         let mut good = 0;
-        for ((call, codes), counts) in CELLS.iter().zip(&self.cells) {
+        for Row { call, can, seen } in &self.rows {
+            if matches!(*call, Call::Step(kind) | Call::Encode(kind) if kind > kinds) {
+                continue;
+            }
             text.push_str(&format!("{:<16}", name(*call)));
             for code in 0..CODES as u32 {
-                let count = counts[code as usize];
-                match (codes.contains(&code), count) {
+                let count = seen[code as usize];
+                match (can.contains(&code), count) {
                     (true, 0) => wrong.push(format!("{} never gave {code}", name(*call))),
                     (false, 1..) => wrong.push(format!(
                         "{} gave {code} {count} times, and no sentence of document 01 says so",

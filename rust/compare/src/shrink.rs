@@ -1,10 +1,9 @@
 //! A failing case made small, and printed as a session file.
 
-use calls::Library;
+use calls::{Library, Step};
 use model::codec::{self, MARK};
 use model::shrink::{shrink as shrink_steps, Outcome};
 use model::state::State;
-use model::step::Step;
 use model::{rules, store_calls, tables};
 
 use crate::case::{Act, Case, Difference};

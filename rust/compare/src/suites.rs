@@ -1,20 +1,19 @@
 //! The cases, in groups.
 
-use calls::{Fields, Library, Request};
+use calls::{Fields, Library, Range, Request, Step, KINDS, MAPS};
 use model::broken::{break_rule, damage};
-use model::codec::{self, map_of, MARK, MAX_SESSION, RECORD_LENGTHS};
+use model::codec::{self, MARK, MAX_SESSION, RECORD_LENGTHS};
 use model::generate::{any_step, step_for, Profile};
+use model::numbers::MAX_SERIAL;
 use model::prng::Prng;
 use model::rules;
-use model::state::{State, MAX_SERIAL};
+use model::state::State;
 use model::states::any_state;
-use model::step::{Range, Step};
 use model::table_rules::{TableError, TableRule};
 use model::tables::{self, tables_of, PLAYERS_WORDS, STORE_WORDS};
 
 use crate::case::{Act, Case, StoreCall};
 use crate::cells::Counts;
-use crate::oracle::fields_of;
 use crate::shrink::{print, shrink};
 
 /// How much is tried, and from which seed.
@@ -55,6 +54,8 @@ pub struct Outcome {
 /// One group while it runs.
 struct Group<'a, L> {
     library: &'a L,
+    /// The kinds that the library knows are 1 up to this one.
+    kinds: u8,
     counts: &'a mut Counts,
     rng: Prng,
     plan: Plan,
@@ -63,6 +64,50 @@ struct Group<'a, L> {
 }
 
 impl<L: Library> Group<'_, L> {
+    /// Steps that a profile draws from a state on.
+    fn drawn(&mut self, mut state: State, length: usize) -> Vec<Step> {
+        let mut profile = Profile::draw(&mut self.rng, self.kinds);
+        let mut steps = Vec::with_capacity(length);
+        for _ in 0..length {
+            let step = profile.next_step(&mut self.rng, &state);
+            rules::step(&mut state, step);
+            steps.push(step);
+        }
+        steps
+    }
+
+    /// A step of any kind with any numbers.
+    fn any_step(&mut self) -> Step {
+        any_step(&mut self.rng, self.kinds)
+    }
+
+    /// A call on both tables.
+    fn any_act(&mut self) -> Act {
+        match self.rng.below(4) {
+            0 => Act::Check,
+            1 => run_of(codec::session(&[self.any_step(), self.any_step()]), 9, 9),
+            _ => Act::Steps(vec![self.any_step()]),
+        }
+    }
+
+    /// Fields of any kind, also such as the kind lacks.
+    fn any_fields(&mut self) -> Fields {
+        let mut fields = Fields::from(self.any_step());
+        let rng = &mut self.rng;
+        if rng.chance(30) {
+            fields.kind = [0, KINDS + 1, KINDS + 2, 255, rng.below(256) as u8][rng.index(5)];
+        }
+        match rng.below(8) {
+            0 => fields.player = rng.below(3) as u8,
+            1 => fields.entry = rng.below(3) as u8,
+            2 => fields.high = [0, 1, 256, 0xFFFF][rng.index(4)],
+            3 => fields.value = rng.word(),
+            4 => fields.serial = rng.word(),
+            _ => {}
+        }
+        fields
+    }
+
     /// Tries a case; true where it fails, and then the group ends.
     fn fails(&mut self, case: Case) -> bool {
         self.cases += 1;
@@ -140,6 +185,7 @@ fn run_one<L: Library>(
     let before = counts.steps;
     let mut state = Group {
         library,
+        kinds: library.kinds(),
         counts,
         rng: Prng::new(plan.seed.wrapping_mul(1_000).wrapping_add(at as u64)),
         plan,
@@ -153,18 +199,6 @@ fn run_one<L: Library>(
         failure: state.failure,
         steps: counts.steps - before,
     }
-}
-
-/// Steps that a profile draws from a state on.
-fn drawn(rng: &mut Prng, mut state: State, length: usize) -> Vec<Step> {
-    let mut profile = Profile::draw(rng);
-    let mut steps = Vec::with_capacity(length);
-    for _ in 0..length {
-        let step = profile.next_step(rng, &state);
-        rules::step(&mut state, step);
-        steps.push(step);
-    }
-    steps
 }
 
 fn case_from(state: &State, act: Act) -> Case {
@@ -191,7 +225,7 @@ fn sessions(group: &mut Group<impl Library>) {
     let mut played = 0;
     while played < most {
         let length = [20, 60, 200, 600][group.rng.index(4)];
-        let steps = drawn(&mut group.rng, State::fresh(), length);
+        let steps = group.drawn(State::fresh(), length);
         played += length as u64;
         if group.fails(Case::fresh(Act::Steps(steps))) {
             return;
@@ -204,7 +238,7 @@ fn late(group: &mut Group<impl Library>) {
     for _ in 0..group.plan.share(800) {
         let mut state = State::fresh();
         state.last_serial = MAX_SERIAL - group.rng.below(60);
-        let steps = drawn(&mut group.rng, state.clone(), 100);
+        let steps = group.drawn(state.clone(), 100);
         if group.fails(case_from(&state, Act::Steps(steps))) {
             return;
         }
@@ -236,7 +270,7 @@ fn crowded(group: &mut Group<impl Library>) {
             rules::step(&mut state, step);
             steps.push(step);
         }
-        steps.extend(drawn(&mut group.rng, state, 60));
+        steps.extend(group.drawn(state, 60));
         if group.fails(Case::fresh(Act::Steps(steps))) {
             return;
         }
@@ -250,7 +284,7 @@ fn any_tables(group: &mut Group<impl Library>) {
         let mut left = state.clone();
         let mut steps = Vec::new();
         for _ in 0..15 {
-            let step = step_for(&mut group.rng, &left);
+            let step = step_for(&mut group.rng, &left, group.kinds);
             rules::step(&mut left, step);
             steps.push(step);
         }
@@ -265,7 +299,7 @@ fn runs(group: &mut Group<impl Library>) {
     for _ in 0..group.plan.share(8_000) {
         let state = start(&mut group.rng);
         let length = [5, 30, 120][group.rng.index(3)];
-        let steps = drawn(&mut group.rng, state.clone(), length);
+        let steps = group.drawn(state.clone(), length);
         let list = 3 * length + group.rng.index(8);
         let budget = length as u32 + group.rng.below(4);
         let act = run_of(codec::session(&steps), budget, list);
@@ -289,7 +323,7 @@ fn full_runs(group: &mut Group<impl Library>) {
     for round in 0..group.plan.share(40) {
         let mut bytes = MARK.to_vec();
         if round % 2 == 0 {
-            let mut profile = Profile::draw(&mut group.rng);
+            let mut profile = Profile::draw(&mut group.rng, group.kinds);
             let mut state = State::fresh();
             loop {
                 let step = profile.next_step(&mut group.rng, &state);
@@ -328,7 +362,7 @@ fn full_runs(group: &mut Group<impl Library>) {
 /// Every budget and list up to more than a session needs, at every cut of the session.
 fn budgets(group: &mut Group<impl Library>) {
     for _ in 0..group.plan.share(4) {
-        let steps = drawn(&mut group.rng, State::fresh(), 3);
+        let steps = group.drawn(State::fresh(), 3);
         let session = codec::session(&steps);
         for cut in 0..=session.len() {
             for budget in 0..=4 {
@@ -349,7 +383,7 @@ fn damaged(group: &mut Group<impl Library>) {
     for _ in 0..group.plan.share(50_000) {
         let state = start(&mut group.rng);
         let length = [3, 10, 30][group.rng.index(3)];
-        let mut bytes = codec::session(&drawn(&mut group.rng, state.clone(), length));
+        let mut bytes = codec::session(&group.drawn(state.clone(), length));
         damage(&mut group.rng, &mut bytes);
         let list = if group.rng.chance(90) {
             100
@@ -371,7 +405,7 @@ fn damaged(group: &mut Group<impl Library>) {
 /// Sessions cut at every byte, longer than one may be, with another mark, and of random bytes.
 fn strange_bytes(group: &mut Group<impl Library>) {
     for _ in 0..group.plan.share(30) {
-        let session = codec::session(&drawn(&mut group.rng, State::fresh(), 20));
+        let session = codec::session(&group.drawn(State::fresh(), 20));
         for cut in 0..session.len() {
             group.counts.damaged += 1;
             if group.fails(Case::fresh(run_of(session[..cut].to_vec(), 100, 60))) {
@@ -410,15 +444,6 @@ fn strange_bytes(group: &mut Group<impl Library>) {
     }
 }
 
-/// A call on both tables.
-fn any_act(rng: &mut Prng) -> Act {
-    match rng.below(4) {
-        0 => Act::Check,
-        1 => run_of(codec::session(&[any_step(rng), any_step(rng)]), 9, 9),
-        _ => Act::Steps(vec![any_step(rng)]),
-    }
-}
-
 /// Tables that break one rule: 22 from every call, and nothing changed.
 fn broken_rules(group: &mut Group<impl Library>) {
     for _ in 0..group.plan.share(40) {
@@ -429,7 +454,7 @@ fn broken_rules(group: &mut Group<impl Library>) {
             }
             let acts = [
                 Act::Check,
-                any_act(&mut group.rng),
+                group.any_act(),
                 Act::Store(StoreCall::Check),
                 Act::Store(any_store_call(&mut group.rng)),
             ];
@@ -463,7 +488,7 @@ fn changed_words(group: &mut Group<impl Library>) {
         let acts = [
             Act::Check,
             Act::Fresh,
-            any_act(&mut group.rng),
+            group.any_act(),
             Act::Store(StoreCall::CheckAt { last }),
             Act::Store(StoreCall::Fresh),
             Act::Store(any_store_call(&mut group.rng)),
@@ -480,12 +505,12 @@ fn lengths(group: &mut Group<impl Library>) {
     let players = [0, 1, 1_280, 9_472, PLAYERS_WORDS, 9_474, 20_000];
     for store_words in stores {
         for players_words in players {
-            for kind in 1..=13 {
+            for kind in 1..=group.kinds {
                 let (mut store, mut players) = tables::fresh_tables();
                 store.resize(store_words, 7);
                 players.resize(players_words, 7);
                 let step = loop {
-                    let step = any_step(&mut group.rng);
+                    let step = group.any_step();
                     if step.kind() == kind {
                         break step;
                     }
@@ -507,28 +532,11 @@ fn lengths(group: &mut Group<impl Library>) {
     }
 }
 
-/// Fields of any kind, also such as the kind lacks.
-fn fields(rng: &mut Prng) -> Fields {
-    let mut fields = fields_of(any_step(rng));
-    if rng.chance(30) {
-        fields.kind = [0, 14, 15, 255, rng.below(256) as u8][rng.index(5)];
-    }
-    match rng.below(8) {
-        0 => fields.player = rng.below(3) as u8,
-        1 => fields.entry = rng.below(3) as u8,
-        2 => fields.high = [0, 1, 256, 0xFFFF][rng.index(4)],
-        3 => fields.value = rng.word(),
-        4 => fields.serial = rng.word(),
-        _ => {}
-    }
-    fields
-}
-
 /// Steps by fields: 26 and 27, also on tables that would be refused themselves.
 fn any_fields(group: &mut Group<impl Library>) {
     for _ in 0..group.plan.share(6_000) {
         let state = start(&mut group.rng);
-        let mut case = case_from(&state, Act::Fields(fields(&mut group.rng)));
+        let mut case = case_from(&state, Act::Fields(group.any_fields()));
         match group.rng.below(10) {
             0 => case.store.truncate(9),
             1 => case.players[0] = MAX_SERIAL + 1,
@@ -548,7 +556,7 @@ fn no_tables(act: Act) -> Case {
     }
 }
 
-/// Records: all of up to two bytes; all maps with all kinds near 1 to 13, at each length up to two
+/// Records: all of up to two bytes; all maps with all kinds in force and near, at each length up to two
 /// more than the map's, with bytes of every sort behind.
 fn decoding(group: &mut Group<impl Library>) {
     let mut parts: Vec<Vec<u8>> = vec![vec![]];
@@ -559,7 +567,7 @@ fn decoding(group: &mut Group<impl Library>) {
         }
     }
     for map in 0..64u8 {
-        for kind in (0..=16).chain([0x80, 0xFF]) {
+        for kind in (0..=KINDS + 3).chain([0x80, 0xFF]) {
             for length in 3..=RECORD_LENGTHS[usize::from(map)] + 2 {
                 for filled in [Some(0u8), Some(0xFF), None] {
                     let mut part = vec![map, kind];
@@ -572,8 +580,8 @@ fn decoding(group: &mut Group<impl Library>) {
         }
     }
     for _ in 0..group.plan.share(20_000) {
-        let kind = group.rng.between(1, 13) as u8;
-        let mut part = vec![map_of(kind).unwrap_or(0), kind];
+        let kind = group.rng.between(1, u32::from(group.kinds)) as u8;
+        let mut part = vec![MAPS[usize::from(kind) - 1], kind];
         for _ in 0..group.rng.index(12) {
             part.push(group.rng.below(256) as u8);
         }
@@ -589,7 +597,7 @@ fn decoding(group: &mut Group<impl Library>) {
 /// Records of all kinds and the mark, to buffers of every small size; what is behind stays.
 fn encoding(group: &mut Group<impl Library>) {
     for _ in 0..group.plan.share(4_000) {
-        let fields = fields(&mut group.rng);
+        let fields = group.any_fields();
         for bytes in (0..=10).chain([64]) {
             if group.fails(no_tables(Act::Encode(fields, bytes))) {
                 return;
@@ -619,7 +627,16 @@ fn marks(group: &mut Group<impl Library>) {
     }
 }
 
-/// Lists of requests of several lengths with any contents.
+/// A mark that stands in so many of 100 cases, by any number: often 1, 2, 3 or 255.
+fn mark(rng: &mut Prng, stands: u32) -> u8 {
+    if rng.chance(stands) {
+        [1, 1, 2, 3, 255, rng.between(1, 255) as u8][rng.index(6)]
+    } else {
+        0
+    }
+}
+
+/// Lists of requests of several lengths with any contents, and marks of any number.
 fn waiting(group: &mut Group<impl Library>) {
     for _ in 0..group.plan.share(4_000) {
         let places = [64, 64, 64, 64, 0, 1, 63, 65, 128][group.rng.index(9)];
@@ -634,9 +651,9 @@ fn waiting(group: &mut Group<impl Library>) {
                 high: rng.below(300) as u16,
                 value: rng.word(),
                 guard: rng.word(),
-                overlapped: rng.chance(50),
-                delivered: rng.chance(50),
-                abandoned: rng.chance(30),
+                overlapped: mark(rng, 50),
+                delivered: mark(rng, 50),
+                abandoned: mark(rng, 30),
                 first: rng.word(),
                 second: rng.word(),
             })

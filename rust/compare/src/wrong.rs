@@ -4,7 +4,7 @@
 //! Three sorts: the port behind a call that is wrong in a point ([`Point`]), the port with a test of
 //! the tables that misses one rule, and the model with one of its faults.
 
-use calls::{Decoded, Fields, Library, Reply, Report, Request};
+use calls::{Decoded, Fields, Library, Reply, Report, Request, KINDS};
 use model::faults::Fault;
 use model::table_rules::{TableError, TableRule};
 use model::tables;
@@ -83,6 +83,8 @@ pub enum Point {
     MarkNeedsFive,
     /// Requests that are given up are counted.
     CountsAbandoned,
+    /// A request whose mark has the number 2 is not taken as given up.
+    CountsMarkTwo,
     /// Unused places are counted.
     CountsUnused,
     /// The player is tested before the list's length.
@@ -101,7 +103,7 @@ pub enum Point {
 
 impl Point {
     /// Every point.
-    pub const ALL: [Point; 40] = [
+    pub const ALL: [Point; 41] = [
         Point::RefusesEachStep,
         Point::RepliesOneToAll,
         Point::SetsNothing,
@@ -135,6 +137,7 @@ impl Point {
         Point::MarkThreeBytes,
         Point::MarkNeedsFive,
         Point::CountsAbandoned,
+        Point::CountsMarkTwo,
         Point::CountsUnused,
         Point::PlayerBeforePlaces,
         Point::StoreSerialZero,
@@ -166,13 +169,6 @@ impl Wrong {
     }
 }
 
-fn refused(code: u32) -> Reply {
-    Reply {
-        code,
-        ..Reply::default()
-    }
-}
-
 const FULL: usize = tables::REQUESTS + 63 * 12;
 
 /// The number of requests of a players' table.
@@ -184,6 +180,10 @@ fn used(players: &[u32]) -> usize {
 }
 
 impl Library for Wrong {
+    fn kinds(&self) -> u8 {
+        Port.kinds()
+    }
+
     fn fresh(&self, store: &mut [u32], players: &mut [u32]) -> Reply {
         let kept = players.last().copied();
         let reply = Port.fresh(store, players);
@@ -200,10 +200,10 @@ impl Library for Wrong {
     fn check(&self, store: &[u32], players: &[u32]) -> Reply {
         let reply = Port.check(store, players);
         if self.lets_by(store, players) {
-            return refused(0);
+            return Reply::refused(0);
         }
         if reply.code == 21 && store.len() == 1_280 && self.is(Point::PlayersLengthAsRule) {
-            return refused(22);
+            return Reply::refused(22);
         }
         reply
     }
@@ -228,29 +228,23 @@ impl Library for Wrong {
         let last = before.1[0];
         let full = before.1[FULL] != 0;
         match point {
-            Point::RefusesEachStep => undone(store, players, refused(32)),
-            Point::RepliesOneToAll => undone(
-                store,
-                players,
-                Reply {
-                    code: 1,
-                    a: last + 1,
-                    b: 0,
-                },
-            ),
+            Point::RefusesEachStep => undone(store, players, Reply::refused(32)),
+            Point::RepliesOneToAll => undone(store, players, Reply::new(1, last + 1, 0)),
             Point::SetsNothing => undone(store, players, reply),
             Point::RefusedTakesSerial if reply.code >= 28 => {
                 players[0] += 1;
                 reply
             }
             Point::OnePlaceFewer if reply.code == 1 && players[FULL] != 0 && !full => {
-                undone(store, players, refused(33))
+                undone(store, players, Reply::refused(33))
             }
             Point::OneSerialFewer if reply.code == 1 && players[0] == 4_000_000 => {
-                undone(store, players, refused(34))
+                undone(store, players, Reply::refused(34))
             }
-            Point::CacheReadNeedsPlace if reply.code == 2 && full => refused(33),
-            Point::SerialsBeforePlaces if reply.code == 33 && last == 4_000_000 => refused(34),
+            Point::CacheReadNeedsPlace if reply.code == 2 && full => Reply::refused(33),
+            Point::SerialsBeforePlaces if reply.code == 33 && last == 4_000_000 => {
+                Reply::refused(34)
+            }
             Point::LeavesWords if used(players) < used(&before.1) => {
                 let at = tables::REQUESTS + 12 * used(players) + 1;
                 players[at] = before.1[at];
@@ -305,10 +299,7 @@ impl Library for Wrong {
             Point::RunMarkFirst
                 if Port.check(store, players).code == 0 && !Port.marked(session) =>
             {
-                return Report {
-                    why: 23,
-                    ..Report::default()
-                };
+                return Report::refused(23);
             }
             Point::RunTablesUntested if Port.check(store, players).code == 22 => {
                 return Report {
@@ -354,7 +345,7 @@ impl Library for Wrong {
         }
         let mut decoded = Port.decode(&part);
         let kind = part.get(1).copied().unwrap_or(1);
-        if self.is(Point::KindBeforeLength) && decoded.code == 24 && kind == 14 {
+        if self.is(Point::KindBeforeLength) && decoded.code == 24 && kind > KINDS {
             decoded.code = 26;
         }
         if self.is(Point::AnyMapTaken) && decoded.code == 27 && part[0] % 2 == 1 {
@@ -380,7 +371,7 @@ impl Library for Wrong {
 
     fn put_mark(&self, out: &mut [u8]) -> Reply {
         if self.is(Point::MarkNeedsFive) && out.len() == 4 {
-            return refused(36);
+            return Reply::refused(36);
         }
         Port.put_mark(out)
     }
@@ -394,11 +385,15 @@ impl Library for Wrong {
 
     fn waiting(&self, list: &[Request], player: u8) -> Reply {
         if self.is(Point::PlayerBeforePlaces) && player > 7 {
-            return refused(28);
+            return Reply::refused(28);
         }
         let mut list = list.to_vec();
         for request in &mut list {
-            request.abandoned &= !self.is(Point::CountsAbandoned);
+            let passed_over = self.is(Point::CountsAbandoned)
+                || self.is(Point::CountsMarkTwo) && request.abandoned == 2;
+            if passed_over {
+                request.abandoned = 0;
+            }
             request.serial |= u32::from(self.is(Point::CountsUnused));
         }
         Port.waiting(&list, player)
@@ -447,7 +442,7 @@ impl Library for Wrong {
     fn store_split(&self, store: &mut [u32], entry: u8) -> Reply {
         let reply = Port.store_split(store, entry);
         if self.is(Point::StoreBoundaryFirst) && reply.code == 28 {
-            return refused(35);
+            return Reply::refused(35);
         }
         reply
     }

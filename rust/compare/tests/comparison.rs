@@ -1,5 +1,6 @@
 //! The port agrees with the model, and the comparison sees every wrong library.
 
+use calls::Library;
 use compare::cells::{Call, Counts};
 use compare::suites::{run_all, Plan};
 use compare::wrong::try_all;
@@ -17,7 +18,7 @@ fn port_agrees() {
         assert_eq!(outcome.failure, None, "{}", outcome.name);
         assert!(outcome.cases > 0);
     }
-    let (_, wrong, _) = counts.table();
+    let (_, wrong, _) = counts.table(Port.kinds());
     assert!(wrong.is_empty(), "{wrong:?}");
     assert!(counts.seen(Call::Step(4), 2) > 100);
 }
@@ -37,5 +38,5 @@ fn wrong_libraries_are_caught() {
         assert!(text.contains("library"), "{}: {text}", library.name);
         tried += 1;
     });
-    assert_eq!(tried, 104);
+    assert_eq!(tried, 105);
 }

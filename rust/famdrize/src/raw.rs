@@ -36,10 +36,10 @@ pub struct Report {
     pub place: u32,
 }
 
-/// A request in flight; a place that is not used has serial 0.
+/// A request in flight; a place that is not used has serial 0. A mark stands where its number is not 0.
 #[repr(C)]
 #[derive(Clone, Copy, Debug, Default, PartialEq, Eq)]
-pub struct Request {
+pub struct Request<Mark = u8> {
     pub serial: u32,
     pub player: u8,
     /// 3 guard request, 4 read, 5 write.
@@ -50,9 +50,9 @@ pub struct Request {
     pub value: u32,
     /// The guard carried.
     pub guard: u32,
-    pub overlapped: bool,
-    pub delivered: bool,
-    pub abandoned: bool,
+    pub overlapped: Mark,
+    pub delivered: Mark,
+    pub abandoned: Mark,
     /// The outcome: 1 or 2 and 0, of a read its version and value.
     pub first: u32,
     pub second: u32,

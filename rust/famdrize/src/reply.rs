@@ -169,7 +169,7 @@ pub enum Refusal {
     CutShort = 24,
     /// 25: bit 6 or 7 of a record's map stands.
     UnknownField = 25,
-    /// 26: the kind is not 1 to 13.
+    /// 26: there is no such kind of step.
     UnknownKind = 26,
     /// 27: the kind is missing, or other fields than the kind's.
     WrongFields = 27,

@@ -2,7 +2,8 @@
 
 use crate::{raw, Player, Refusal};
 
-pub use crate::raw::Request;
+/// A request in flight, with marks that stand or do not; a place that is not used has serial 0.
+pub type Request = raw::Request<bool>;
 
 impl Request {
     /// The request of a place of the players' table: 12 words of a table that keeps its rules, so each fits its field.
@@ -28,9 +29,9 @@ impl Request {
 
 /// How many pending requests of the player stand in a list; 21 unless it has 64 places. Nothing else is tested.
 pub fn pending(requests: &[Request], player: Player) -> Result<u32, Refusal> {
-    // SAFETY: a slice with its length, of a type laid out as the library's.
+    // SAFETY: a slice with its length, of a type laid out as the library's: a bool is one byte, 0 or 1.
     let reply =
-        unsafe { raw::famdrize_waiting(requests.as_ptr(), requests.len(), player.number()) };
+        unsafe { raw::famdrize_waiting(requests.as_ptr().cast(), requests.len(), player.number()) };
     Refusal::of_code(reply.code)?;
     Ok(reply.a)
 }
@@ -40,24 +41,31 @@ mod tests {
     use super::*;
     use std::mem::{align_of, offset_of, size_of};
 
+    /// Size, alignment, and the offset of each field.
+    fn layout<Mark>() -> [usize; 14] {
+        type Of<Mark> = raw::Request<Mark>;
+        [
+            size_of::<Of<Mark>>(),
+            align_of::<Of<Mark>>(),
+            offset_of!(Of<Mark>, serial),
+            offset_of!(Of<Mark>, player),
+            offset_of!(Of<Mark>, kind),
+            offset_of!(Of<Mark>, low),
+            offset_of!(Of<Mark>, high),
+            offset_of!(Of<Mark>, value),
+            offset_of!(Of<Mark>, guard),
+            offset_of!(Of<Mark>, overlapped),
+            offset_of!(Of<Mark>, delivered),
+            offset_of!(Of<Mark>, abandoned),
+            offset_of!(Of<Mark>, first),
+            offset_of!(Of<Mark>, second),
+        ]
+    }
+
     #[test]
     fn a_request_is_laid_out_as_c_does() {
-        assert_eq!((size_of::<Request>(), align_of::<Request>()), (32, 4));
-        let offsets = [
-            offset_of!(Request, serial),
-            offset_of!(Request, player),
-            offset_of!(Request, kind),
-            offset_of!(Request, low),
-            offset_of!(Request, high),
-            offset_of!(Request, value),
-            offset_of!(Request, guard),
-            offset_of!(Request, overlapped),
-            offset_of!(Request, delivered),
-            offset_of!(Request, abandoned),
-            offset_of!(Request, first),
-            offset_of!(Request, second),
-        ];
-        assert_eq!(offsets, [0, 4, 5, 6, 8, 12, 16, 20, 21, 22, 24, 28]);
+        let as_c = [32, 4, 0, 4, 5, 6, 8, 12, 16, 20, 21, 22, 24, 28];
+        assert_eq!((layout::<u8>(), layout::<bool>()), (as_c, as_c));
     }
 
     #[test]
@@ -84,6 +92,23 @@ mod tests {
             ..Request::default()
         };
         assert_eq!(pending(&list, Player::new(7).unwrap()), Ok(1));
+    }
+
+    #[test]
+    fn a_mark_stands_where_its_number_is_not_0() {
+        for (mark, count) in [(0, 64), (1, 0), (2, 0), (3, 0), (128, 0), (255, 0)] {
+            let request = raw::Request {
+                serial: 1,
+                overlapped: 255 - mark,
+                delivered: 255 - mark,
+                abandoned: mark,
+                ..raw::Request::default()
+            };
+            let list = [request; 64];
+            // SAFETY: a slice with its length.
+            let reply = unsafe { raw::famdrize_waiting(list.as_ptr(), list.len(), 0) };
+            assert_eq!((reply.code, reply.a, reply.b), (0, count, 0), "{mark}");
+        }
     }
 
     #[test]

@@ -210,7 +210,13 @@ mod tests {
             ..Fields::default()
         };
         assert_eq!(
-            encode(Fields { kind: 14, ..fields }, &mut out),
+            encode(
+                Fields {
+                    kind: 255,
+                    ..fields
+                },
+                &mut out
+            ),
             Err(Refusal::UnknownKind)
         );
         assert_eq!(
@@ -228,6 +234,29 @@ mod tests {
         assert_eq!(encode(read, &mut out), Ok(4));
         assert_eq!(decode(&out).map(|r| r.fields), Ok(read));
         assert_eq!(Step::try_from(read), Err(Refusal::OutOfRange));
+    }
+
+    #[test]
+    fn the_library_has_the_kinds_and_fields_of_the_steps() {
+        for kind in 0..=u8::MAX {
+            let none = Fields {
+                kind,
+                ..Fields::default()
+            };
+            for fields in [
+                none,
+                Fields { player: 1, ..none },
+                Fields { entry: 1, ..none },
+                Fields { high: 1, ..none },
+                Fields { value: 1, ..none },
+                Fields { serial: 1, ..none },
+            ] {
+                // a step that would be refused can be written
+                let refused = Step::try_from(fields).err();
+                let refused = refused.filter(|&refusal| refusal != Refusal::OutOfRange);
+                assert_eq!(encode(fields, &mut [0; 8]).err(), refused, "{fields:?}");
+            }
+        }
     }
 
     #[test]

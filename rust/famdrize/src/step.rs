@@ -85,7 +85,7 @@ pub enum Step {
 /// The fields of a step at the widths of a record: those that the kind lacks are 0. Unlike a [`Step`], they may be ones that are refused.
 #[derive(Clone, Copy, Debug, Default, PartialEq, Eq, Hash)]
 pub struct Fields {
-    /// 1 to 13.
+    /// The kind.
     pub kind: u8,
     /// The player.
     pub player: u8,
@@ -99,14 +99,41 @@ pub struct Fields {
     pub serial: u32,
 }
 
+impl Fields {
+    /// The same with 0 for each field but those of a record's map.
+    fn kept(self, map: u8) -> Fields {
+        let has = |bit: u8| map >> bit & 1 == 1;
+        Fields {
+            kind: self.kind,
+            player: if has(1) { self.player } else { 0 },
+            entry: if has(2) { self.entry } else { 0 },
+            high: if has(3) { self.high } else { 0 },
+            value: if has(4) { self.value } else { 0 },
+            serial: if has(5) { self.serial } else { 0 },
+        }
+    }
+
+    /// Its player, none above 7.
+    fn its_player(self) -> Option<Player> {
+        Player::new(self.player)
+    }
+
+    /// Its range, none where it is empty or goes past 256.
+    fn its_range(self) -> Option<Range> {
+        Range::new(self.entry, self.high)
+    }
+}
+
 impl From<Step> for Fields {
     fn from(step: Step) -> Fields {
-        let none = Fields::default();
-        let ranged = |kind, range: Range| Fields {
+        let of = |kind: u8| Fields {
             kind,
+            ..Fields::default()
+        };
+        let ranged = |kind: u8, range: Range| Fields {
             entry: range.low(),
             high: range.high(),
-            ..none
+            ..of(kind)
         };
         match step {
             Step::Assign { player, range } => Fields {
@@ -119,61 +146,30 @@ impl From<Step> for Fields {
                 ..ranged(3, range)
             },
             Step::Read { player, entry } => Fields {
-                kind: 4,
                 player: player.number(),
                 entry,
-                ..none
+                ..of(4)
             },
             Step::Write {
                 player,
                 entry,
                 value,
             } => Fields {
-                kind: 5,
                 player: player.number(),
                 entry,
                 value,
-                ..none
+                ..of(5)
             },
-            Step::Deliver { serial } => Fields {
-                kind: 6,
-                serial,
-                ..none
-            },
-            Step::Respond { serial } => Fields {
-                kind: 7,
-                serial,
-                ..none
-            },
-            Step::Abandon { serial } => Fields {
-                kind: 8,
-                serial,
-                ..none
-            },
-            Step::Lose { serial } => Fields {
-                kind: 9,
-                serial,
-                ..none
-            },
-            Step::Split { entry } => Fields {
-                kind: 10,
-                entry,
-                ..none
-            },
-            Step::Merge { entry } => Fields {
-                kind: 11,
-                entry,
-                ..none
-            },
-            Step::RestartTablet { entry } => Fields {
-                kind: 12,
-                entry,
-                ..none
-            },
+            Step::Deliver { serial } => Fields { serial, ..of(6) },
+            Step::Respond { serial } => Fields { serial, ..of(7) },
+            Step::Abandon { serial } => Fields { serial, ..of(8) },
+            Step::Lose { serial } => Fields { serial, ..of(9) },
+            Step::Split { entry } => Fields { entry, ..of(10) },
+            Step::Merge { entry } => Fields { entry, ..of(11) },
+            Step::RestartTablet { entry } => Fields { entry, ..of(12) },
             Step::RestartPlayer { player } => Fields {
-                kind: 13,
                 player: player.number(),
-                ..none
+                ..of(13)
             },
         }
     }
@@ -182,86 +178,53 @@ impl From<Step> for Fields {
 impl TryFrom<Fields> for Step {
     type Error = Refusal;
 
-    /// The step of these fields: 26 where the kind is not 1 to 13, 27 where a field that the kind lacks is not 0, 28 where the player is
+    /// The step of these fields: 26 where there is no such kind, 27 where a field that the kind lacks is not 0, 28 where the player is
     /// above 7, or the range is empty or goes past 256.
     fn try_from(fields: Fields) -> Result<Step, Refusal> {
-        let Fields {
-            kind,
-            entry,
-            value,
-            serial,
-            ..
-        } = fields;
-        let lacks_none = match kind {
-            1 | 3 => Fields {
-                value: 0,
-                serial: 0,
-                ..fields
-            },
-            2 => Fields {
-                player: 0,
-                value: 0,
-                serial: 0,
-                ..fields
-            },
-            4 => Fields {
-                high: 0,
-                value: 0,
-                serial: 0,
-                ..fields
-            },
-            5 => Fields {
-                high: 0,
-                serial: 0,
-                ..fields
-            },
-            6..=9 => Fields {
-                kind,
-                serial,
-                ..Fields::default()
-            },
-            10..=12 => Fields {
-                kind,
-                entry,
-                ..Fields::default()
-            },
-            13 => Fields {
-                kind,
-                player: fields.player,
-                ..Fields::default()
-            },
+        // The map of the kind's record, and the step; none where its player or range is out of range.
+        let (map, step): (u8, fn(Fields) -> Option<Step>) = match fields.kind {
+            1 => (0x0F, |f| {
+                let (player, range) = (f.its_player()?, f.its_range()?);
+                Some(Step::Assign { player, range })
+            }),
+            2 => (0x0D, |f| {
+                let range = f.its_range()?;
+                Some(Step::Release { range })
+            }),
+            3 => (0x0F, |f| {
+                let (player, range) = (f.its_player()?, f.its_range()?);
+                Some(Step::RequestGuard { player, range })
+            }),
+            4 => (0x07, |f| {
+                let (player, entry) = (f.its_player()?, f.entry);
+                Some(Step::Read { player, entry })
+            }),
+            5 => (0x17, |f| {
+                let player = f.its_player()?;
+                let Fields { entry, value, .. } = f;
+                Some(Step::Write {
+                    player,
+                    entry,
+                    value,
+                })
+            }),
+            6 => (0x21, |f| Some(Step::Deliver { serial: f.serial })),
+            7 => (0x21, |f| Some(Step::Respond { serial: f.serial })),
+            8 => (0x21, |f| Some(Step::Abandon { serial: f.serial })),
+            9 => (0x21, |f| Some(Step::Lose { serial: f.serial })),
+            10 => (0x05, |f| Some(Step::Split { entry: f.entry })),
+            11 => (0x05, |f| Some(Step::Merge { entry: f.entry })),
+            12 => (0x05, |f| Some(Step::RestartTablet { entry: f.entry })),
+            13 => (0x03, |f| {
+                let player = f.its_player()?;
+                Some(Step::RestartPlayer { player })
+            }),
             _ => return Err(Refusal::UnknownKind),
         };
-        if lacks_none != fields {
+        if fields.kept(map) != fields {
             return Err(Refusal::WrongFields);
         }
-        let player = Player::new(fields.player).ok_or(Refusal::OutOfRange)?;
-        let range = || Range::new(entry, fields.high).ok_or(Refusal::OutOfRange);
-        Ok(match kind {
-            1 => Step::Assign {
-                player,
-                range: range()?,
-            },
-            2 => Step::Release { range: range()? },
-            3 => Step::RequestGuard {
-                player,
-                range: range()?,
-            },
-            4 => Step::Read { player, entry },
-            5 => Step::Write {
-                player,
-                entry,
-                value,
-            },
-            6 => Step::Deliver { serial },
-            7 => Step::Respond { serial },
-            8 => Step::Abandon { serial },
-            9 => Step::Lose { serial },
-            10 => Step::Split { entry },
-            11 => Step::Merge { entry },
-            12 => Step::RestartTablet { entry },
-            _ => Step::RestartPlayer { player },
-        })
+        step(fields).ok_or(Refusal::OutOfRange)
     }
 }
 
@@ -318,19 +281,16 @@ mod tests {
 
     #[test]
     fn a_field_that_the_kind_lacks_is_refused() {
-        // the fields of each kind, by the maps of docs/FORMATS.md
-        let maps = [
-            0x0F, 0x0D, 0x0F, 0x07, 0x17, 0x21, 0x21, 0x21, 0x21, 0x05, 0x05, 0x05, 0x03,
-        ];
-        for ((step, numbers), map) in samples().into_iter().zip(maps) {
-            for bit in 1..6 {
+        for (step, numbers) in samples() {
+            for at in 1..6 {
                 let mut other = numbers;
-                other[bit] = 1;
-                let lacks = map >> bit & 1 == 0;
+                other[at] = 1;
+                // a sample has no field of its kind 0
+                let lacks = numbers[at] == 0;
                 assert_eq!(
                     Step::try_from(fields(other)) == Err(Refusal::WrongFields),
                     lacks,
-                    "{step:?}, bit {bit}"
+                    "{step:?}, number {at}"
                 );
             }
         }
@@ -338,7 +298,7 @@ mod tests {
 
     #[test]
     fn other_kinds_players_and_ranges_are_refused() {
-        for kind in [0, 14, 255] {
+        for kind in [0, samples().len() as u8 + 1, 255] {
             assert_eq!(
                 Step::try_from(Fields {
                     kind,

@@ -240,7 +240,7 @@ mod tests {
         );
         assert_eq!(
             tables.step_fields(Fields {
-                kind: 14,
+                kind: 255,
                 ..Fields::default()
             }),
             Reply::Refused(Refusal::UnknownKind)

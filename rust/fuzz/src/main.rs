@@ -4,7 +4,7 @@
 
 #![no_main]
 
-use calls::Library;
+use calls::{Library, Step, KINDS};
 use compare::case::{Act, Case};
 use compare::cells::Counts;
 use compare::shrink::{print, shrink};
@@ -13,7 +13,6 @@ use model::generate::{any_step, step_for};
 use model::prng::Prng;
 use model::rules;
 use model::state::State;
-use model::step::Step;
 
 /// Prints the smallest case and aborts where library and model differ.
 fn try_run(name: &str, library: &impl Library, case: &Case) {
@@ -83,13 +82,13 @@ pub extern "C" fn LLVMFuzzerCustomMutator(
             0 if at < steps.len() => drop(steps.remove(at)),
             1 if at < steps.len() => steps.insert(at, steps[at]),
             2 if at + 1 < steps.len() => steps.swap(at, at + 1),
-            3 => steps.insert(at, any_step(&mut rng)),
+            3 => steps.insert(at, any_step(&mut rng, KINDS)),
             _ => {
                 let mut state = State::fresh();
                 for &step in &steps[..at] {
                     rules::step(&mut state, step);
                 }
-                steps.insert(at, step_for(&mut rng, &state));
+                steps.insert(at, step_for(&mut rng, &state, KINDS));
             }
         }
     }

@@ -1,10 +1,12 @@
 //! Tables that break one rule alone, and damaged sessions.
 
+use calls::Range;
+
+use crate::numbers::MAX_SERIAL;
 use crate::prng::Prng;
 use crate::request_words::{RequestWords, REQUEST_WORDS};
-use crate::state::{Cached, Operation, Request, State, MAX_SERIAL};
+use crate::state::{Cached, Operation, Request, State};
 use crate::states::any_state;
-use crate::step::Range;
 use crate::store::{GuardOutcome, Versioned, WriteOutcome};
 use crate::table_rules::TableRule;
 use crate::tables::{

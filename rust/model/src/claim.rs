@@ -3,10 +3,11 @@
 
 use std::collections::BTreeMap;
 
+use calls::{Range, Reply, Step};
+
 use crate::ledger::{Ledger, OperationId, Placed};
-use crate::reply::{code, Reply};
-use crate::state::ENTRIES;
-use crate::step::{Range, Step};
+use crate::numbers::{Entries, ENTRIES};
+use crate::reply::code;
 use crate::store::{Store, Versioned};
 
 /// A step with its reply.

@@ -1,7 +1,8 @@
 //! Session records: bytes to steps and back.
 
-use crate::reply::{code, Refusal, Reply};
-use crate::step::{Range, Step};
+use calls::{Fields, Reply, Step};
+
+use crate::reply::{code, Refusal};
 
 /// "Its first four bytes are 52 53 4C 31."
 pub const MARK: [u8; 4] = [0x52, 0x53, 0x4C, 0x31];
@@ -32,32 +33,6 @@ const fn record_lengths() -> [usize; 64] {
     lengths
 }
 
-/// "Maps: 0F for kinds 1 and 3; 0D for 2; 07 for 4; 17 for 5; 21 for 6 to 9; 05 for 10 to 12; 03
-/// for 13." No map for a kind that is "not 1 to 13".
-pub const fn map_of(kind: u8) -> Option<u8> {
-    match kind {
-        1 | 3 => Some(0x0F),
-        2 => Some(0x0D),
-        4 => Some(0x07),
-        5 => Some(0x17),
-        6..=9 => Some(0x21),
-        10..=12 => Some(0x05),
-        13 => Some(0x03),
-        _ => None,
-    }
-}
-
-/// The fields that stand in a record, 0 for those that do not.
-#[derive(Clone, Copy, Default)]
-struct Fields {
-    kind: u8,
-    player: u8,
-    low: u8,
-    high: u16,
-    value: u32,
-    serial: u32,
-}
-
 /// Takes the next `N` bytes when the map's bit stands, else none; "little-endian".
 struct Cursor<'a> {
     map: u8,
@@ -84,84 +59,11 @@ fn read_fields(map: u8, rest: &[u8]) -> Result<Fields, Refusal> {
     Ok(Fields {
         kind: u8::from_le_bytes(cursor.take(0)?),
         player: u8::from_le_bytes(cursor.take(1)?),
-        low: u8::from_le_bytes(cursor.take(2)?),
+        entry: u8::from_le_bytes(cursor.take(2)?),
         high: u16::from_le_bytes(cursor.take(3)?),
         value: u32::from_le_bytes(cursor.take(4)?),
         serial: u32::from_le_bytes(cursor.take(5)?),
     })
-}
-
-fn step_of(fields: Fields) -> Option<Step> {
-    let Fields {
-        kind,
-        player,
-        low,
-        high,
-        value,
-        serial,
-    } = fields;
-    let range = Range::new(low, high);
-    let entry = low;
-    match kind {
-        1 => Some(Step::Assign { player, range }),
-        2 => Some(Step::Release { range }),
-        3 => Some(Step::RequestGuard { player, range }),
-        4 => Some(Step::Read { player, entry }),
-        5 => Some(Step::Write {
-            player,
-            entry,
-            value,
-        }),
-        6 => Some(Step::Deliver { serial }),
-        7 => Some(Step::Respond { serial }),
-        8 => Some(Step::Abandon { serial }),
-        9 => Some(Step::Lose { serial }),
-        10 => Some(Step::Split { entry }),
-        11 => Some(Step::Merge { entry }),
-        12 => Some(Step::RestartTablet { entry }),
-        13 => Some(Step::RestartPlayer { player }),
-        _ => None,
-    }
-}
-
-fn fields_of(step: Step) -> Fields {
-    let mut fields = Fields {
-        kind: step.kind(),
-        ..Fields::default()
-    };
-    match step {
-        Step::Assign { player, range } | Step::RequestGuard { player, range } => {
-            fields.player = player;
-            fields.low = range.low;
-            fields.high = range.high;
-        }
-        Step::Release { range } => {
-            fields.low = range.low;
-            fields.high = range.high;
-        }
-        Step::Read { player, entry } => {
-            fields.player = player;
-            fields.low = entry;
-        }
-        Step::Write {
-            player,
-            entry,
-            value,
-        } => {
-            fields.player = player;
-            fields.low = entry;
-            fields.value = value;
-        }
-        Step::Deliver { serial }
-        | Step::Respond { serial }
-        | Step::Abandon { serial }
-        | Step::Lose { serial } => fields.serial = serial,
-        Step::Split { entry } | Step::Merge { entry } | Step::RestartTablet { entry } => {
-            fields.low = entry;
-        }
-        Step::RestartPlayer { player } => fields.player = player,
-    }
-    fields
 }
 
 /// Reads the record that begins the bytes; gives the step and the record's length. Reading 16:
@@ -180,8 +82,8 @@ pub fn decode(bytes: &[u8]) -> Result<(Step, usize), Refusal> {
     if map & 1 == 0 {
         return Err(Refusal::RecordFields);
     }
-    let step = step_of(fields).ok_or(Refusal::RecordKind)?;
-    if map_of(fields.kind) != Some(map) {
+    let step = Step::of_its_fields(fields).ok_or(Refusal::RecordKind)?;
+    if step.map() != map {
         return Err(Refusal::RecordFields);
     }
     Ok((step, length))
@@ -189,12 +91,12 @@ pub fn decode(bytes: &[u8]) -> Result<(Step, usize), Refusal> {
 
 /// The record of a step.
 pub fn record(step: Step) -> Vec<u8> {
-    let fields = fields_of(step);
-    let map = map_of(fields.kind).unwrap_or(0);
+    let fields = Fields::from(step);
+    let map = step.map();
     let parts: [&[u8]; 6] = [
         &fields.kind.to_le_bytes(),
         &fields.player.to_le_bytes(),
-        &fields.low.to_le_bytes(),
+        &fields.entry.to_le_bytes(),
         &fields.high.to_le_bytes(),
         &fields.value.to_le_bytes(),
         &fields.serial.to_le_bytes(),
@@ -216,7 +118,7 @@ fn put(bytes: &[u8], buffer: &mut [u8]) -> Reply {
             place.copy_from_slice(bytes);
             Reply::new(code::DONE, length, 0)
         }
-        _ => Reply::refused(Refusal::BufferShort),
+        _ => Reply::from(Refusal::BufferShort),
     }
 }
 

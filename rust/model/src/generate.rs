@@ -1,14 +1,18 @@
 //! Random steps that collide: few players and entries, serials of requests in flight, long delays,
 //! many abandoned requests, restarts and splits.
 
+use calls::{bit, has, Fields, Range, Step, KINDS};
+
+use crate::numbers::{Entries, ENTRIES, MAX_SERIAL, NOBODY, PLAYERS};
 use crate::prng::Prng;
-use crate::state::{Request, State, ENTRIES, MAX_SERIAL, NOBODY, PLAYERS};
-use crate::step::{Range, Step, KINDS};
+use crate::state::{Request, State};
 
 /// What the steps of one list are drawn from. Each list has its own profile, so that some lists
 /// have long delays, some many restarts, some no splits at all.
 #[derive(Clone, Debug)]
 pub struct Profile {
+    /// Kinds 1 up to this one.
+    kinds: u8,
     /// Players 0 up to, not including, this one.
     players: u8,
     /// The entries used.
@@ -74,8 +78,8 @@ enum Taken {
 const WEIGHTS: [u32; KINDS as usize] = [8, 1, 20, 40, 40, 80, 80, 12, 5, 2, 3, 2, 2];
 
 impl Profile {
-    /// A new profile.
-    pub fn draw(rng: &mut Prng) -> Profile {
+    /// A new profile, of steps of the kinds 1 up to this one.
+    pub fn draw(rng: &mut Prng, kinds: u8) -> Profile {
         let mut weights = WEIGHTS;
         for weight in &mut weights {
             *weight *= [0, 1, 1, 2, 4][rng.index(5)];
@@ -87,6 +91,7 @@ impl Profile {
         let width = [1, 1, 1, 2, 4, 256][rng.index(6)];
         let low = rng.below(257 - u32::from(width)) as u8;
         Profile {
+            kinds,
             players: [1, 1, 2, 2, 3, 8][rng.index(6)],
             window: Range::new(low, u16::from(low) + width),
             weights,
@@ -113,7 +118,7 @@ impl Profile {
             }
         }
         if rng.chance(self.stray) {
-            return any_step(rng);
+            return any_step(rng, self.kinds);
         }
         let mut step = self.follow_up(rng, state);
         for _ in 0..8 {
@@ -122,7 +127,7 @@ impl Profile {
         if step.is_none() {
             self.phase = Phase::NONE;
         }
-        let step = step.unwrap_or_else(|| any_step(rng));
+        let step = step.unwrap_or_else(|| any_step(rng, self.kinds));
         self.previous = Some(step);
         step
     }
@@ -185,8 +190,8 @@ impl Profile {
             let at = usize::from(kind) - 1;
             self.weights[at] * u32::from(self.phase.kinds[at])
         };
-        let mut left = rng.below((1..=KINDS).map(weight).sum());
-        for kind in 1..=KINDS {
+        let mut left = rng.below((1..=self.kinds).map(weight).sum());
+        for kind in 1..=self.kinds {
             if left < weight(kind) {
                 return Some(kind);
             }
@@ -210,8 +215,6 @@ impl Profile {
         let unready = rng.chance(5);
         Some(match self.kind(rng)? {
             1 if owned && rng.chance(self.steady) => return None,
-            1 => Step::Assign { player, range },
-            2 => Step::Release { range },
             3 => {
                 let player = owner(rng, range.low);
                 let mut owners = state.owners[range.entries()].iter();
@@ -246,10 +249,17 @@ impl Profile {
             9 => Step::Lose {
                 serial: self.serial(rng, state, |r| r.abandoned)?,
             },
-            10 => Step::Split { entry },
-            11 => Step::Merge { entry },
-            12 => Step::RestartTablet { entry },
-            _ => Step::RestartPlayer { player },
+            kind => Step::of_its_fields(Fields {
+                kind,
+                player,
+                entry: if has(kind, bit::HIGH) {
+                    range.low
+                } else {
+                    entry
+                },
+                high: range.high,
+                ..Fields::default()
+            })?,
         })
     }
 
@@ -291,35 +301,24 @@ impl Profile {
     }
 }
 
-/// A step of any kind with any numbers.
-pub fn any_step(rng: &mut Prng) -> Step {
-    let player = small_or_any(rng, 9) as u8;
-    let entry = small_or_any(rng, 2) as u8;
-    let range = Range::new(entry, rng.below(300) as u16);
-    let serial = match rng.below(4) {
-        0 => MAX_SERIAL - 2 + rng.below(5),
-        1 => rng.word(),
-        _ => rng.below(40),
-    };
-    match rng.below(u32::from(KINDS)) + 1 {
-        1 => Step::Assign { player, range },
-        2 => Step::Release { range },
-        3 => Step::RequestGuard { player, range },
-        4 => Step::Read { player, entry },
-        5 => Step::Write {
-            player,
-            entry,
-            value: rng.word(),
+/// A step of any of the kinds 1 up to this one, with any numbers.
+pub fn any_step(rng: &mut Prng, kinds: u8) -> Step {
+    let mut fields = Fields {
+        player: small_or_any(rng, 9) as u8,
+        entry: small_or_any(rng, 2) as u8,
+        high: rng.below(300) as u16,
+        serial: match rng.below(4) {
+            0 => MAX_SERIAL - 2 + rng.below(5),
+            1 => rng.word(),
+            _ => rng.below(40),
         },
-        6 => Step::Deliver { serial },
-        7 => Step::Respond { serial },
-        8 => Step::Abandon { serial },
-        9 => Step::Lose { serial },
-        10 => Step::Split { entry },
-        11 => Step::Merge { entry },
-        12 => Step::RestartTablet { entry },
-        _ => Step::RestartPlayer { player },
+        kind: rng.below(u32::from(kinds)) as u8 + 1,
+        value: 0,
+    };
+    if has(fields.kind, bit::VALUE) {
+        fields.value = rng.word();
     }
+    Step::of_its_fields(fields).expect("a kind in force")
 }
 
 /// Most often a number below the bound, else any byte.
@@ -331,9 +330,10 @@ fn small_or_any(rng: &mut Prng, bound: u32) -> u32 {
     }
 }
 
-/// A step for any state: the numbers are often those of the state.
-pub fn step_for(rng: &mut Prng, state: &State) -> Step {
+/// A step of the kinds 1 up to this one for any state: the numbers are often those of the state.
+pub fn step_for(rng: &mut Prng, state: &State, kinds: u8) -> Step {
     let mut profile = Profile {
+        kinds,
         players: PLAYERS as u8,
         window: Range::new(0, ENTRIES as u16),
         weights: WEIGHTS,

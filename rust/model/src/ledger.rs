@@ -5,10 +5,11 @@
 
 use std::collections::BTreeMap;
 
+use calls::{Range, Reply, Step};
+
 use crate::faults::NoFault;
-use crate::reply::{code, Reply};
-use crate::state::{ENTRIES, PLAYERS};
-use crate::step::{Range, Step};
+use crate::numbers::{Entries, ENTRIES, PLAYERS};
+use crate::reply::code;
 use crate::store::{Store, Versioned, WriteOutcome};
 
 /// "Steps 3, 4 and 5 with reply 1 are noted under their serial".

@@ -15,7 +15,7 @@ pub fn listing(session: &[u8]) -> String {
     let mut list = vec![0; LIST_PLACES * REPLY_WORDS];
     let report = run(&mut store, &mut players, session, BUDGET, &mut list);
     let mut text = String::from("step code a b\n");
-    for (ordinal, reply) in (1..=report.taken).zip(list.chunks_exact(REPLY_WORDS)) {
+    for (ordinal, reply) in (1..=report.records).zip(list.chunks_exact(REPLY_WORDS)) {
         text.push_str(&format!(
             "{ordinal} {} {} {}\n",
             reply[0], reply[1], reply[2]
@@ -23,7 +23,7 @@ pub fn listing(session: &[u8]) -> String {
     }
     text.push_str(&format!(
         "end {} {} {}\n",
-        report.why, report.taken, report.place
+        report.why, report.records, report.place
     ));
     text
 }

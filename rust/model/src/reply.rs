@@ -1,15 +1,6 @@
 //! Replies and refusals.
 
-/// "A reply is a code and two numbers."
-#[derive(Clone, Copy, Debug, PartialEq, Eq, Hash)]
-pub struct Reply {
-    /// One of [`code`], or a refusal's number.
-    pub code: u32,
-    /// The first number.
-    pub a: u32,
-    /// The second number.
-    pub b: u32,
-}
+use calls::{Reply, KINDS};
 
 /// The codes of the section "Replies".
 pub mod code {
@@ -31,26 +22,6 @@ pub mod code {
     pub const NOT_HELD: u32 = 7;
     /// "8: layout changed", with serial, 0.
     pub const LAYOUT_CHANGED: u32 = 8;
-}
-
-impl Reply {
-    /// "0: done, zeros."
-    pub const DONE: Reply = Reply::new(code::DONE, 0, 0);
-
-    /// The reply with this code and these two numbers.
-    pub const fn new(code: u32, a: u32, b: u32) -> Reply {
-        Reply { code, a, b }
-    }
-
-    /// "A refusal gives its number and two zeros."
-    pub const fn refused(refusal: Refusal) -> Reply {
-        Reply::new(refusal.number(), 0, 0)
-    }
-
-    /// Whether the code is that of a refusal.
-    pub const fn is_refusal(self) -> bool {
-        self.code >= Refusal::TableLength.number()
-    }
 }
 
 /// "Who can cause a refusal": the listed numbers.
@@ -100,11 +71,33 @@ impl Refusal {
     }
 }
 
-impl From<Result<Reply, Refusal>> for Reply {
-    fn from(result: Result<Reply, Refusal>) -> Reply {
-        match result {
-            Ok(reply) => reply,
-            Err(refusal) => Reply::refused(refusal),
-        }
+/// "A refusal gives its number and two zeros."
+impl From<Refusal> for Reply {
+    fn from(refusal: Refusal) -> Reply {
+        Reply::refused(refusal.number())
     }
 }
+
+/// What each kind of step can reply, kind 1 first, but for 21 and 22: "Step 1 to 5 give 1 unless
+/// read from memory; 7 gives 3 to 8; the rest 0", and "Who can cause a refusal".
+pub const REPLIES: [&[u32]; KINDS as usize] = [
+    // "1 assign, 2 release: take a serial": 1; 28 player, range; 34. They test no owner.
+    &[1, 28, 34],
+    &[1, 28, 34],
+    // "29 not owner of every entry (steps 3, 5)"; "31 ... (step 3)"; "33 a row is needed"; 34.
+    &[1, 28, 29, 31, 33, 34],
+    // "Any player may read": no 29; from memory 2.
+    &[1, 2, 28, 33, 34],
+    // "30 no live guard (step 5)".
+    &[1, 28, 29, 30, 33, 34],
+    // "32 no row that this step fits (6 not arrived; 7 arrived and waiting; 8 waiting; 9 given up)".
+    &[0, 32],
+    &[3, 4, 5, 6, 7, 8, 32],
+    &[0, 32],
+    &[0, 32],
+    // "28 ... split or merge at entry 0"; "35 split at a border, merge where none is".
+    &[0, 28, 35],
+    &[0, 28, 35],
+    &[0],
+    &[0, 28],
+];

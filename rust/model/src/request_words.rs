@@ -1,14 +1,16 @@
 //! A request in its twelve words.
 
-use crate::state::{Operation, Request, PLAYERS};
-use crate::step::Range;
+use calls::Range;
+
+use crate::numbers::{Entries, PLAYERS};
+use crate::state::{Operation, Request};
 use crate::store::{GuardOutcome, Versioned, WriteOutcome};
 use crate::table_rules::{bit, require, TableRule};
 
 /// Words of a request.
 pub const REQUEST_WORDS: usize = 12;
 
-/// A place of the requests, word for word; also a record of the lent list.
+/// A place of the requests, word for word.
 #[derive(Clone, Copy, Debug, Default, PartialEq, Eq)]
 #[allow(missing_docs)]
 pub struct RequestWords {

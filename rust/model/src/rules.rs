@@ -4,12 +4,12 @@
 //! words (see `tables`); the others are tested here in this order, and a refused step changes
 //! nothing.
 
+use calls::{Range, Reply, Step};
+
 use crate::faults::{Fault, NoFault, Switches};
-use crate::reply::{code, Refusal, Reply};
-use crate::state::{
-    Cached, Operation, Request, State, ENTRIES, MAX_REQUESTS, MAX_SERIAL, NOBODY, PLAYERS,
-};
-use crate::step::{Range, Step};
+use crate::numbers::{Entries, ENTRIES, MAX_REQUESTS, MAX_SERIAL, NOBODY, PLAYERS};
+use crate::reply::{code, Refusal};
+use crate::state::{Cached, Operation, Request, State};
 use crate::store::{GuardOutcome, Versioned, WriteOutcome};
 
 /// One step by the right rules.
@@ -19,7 +19,7 @@ pub fn step(state: &mut State, step: Step) -> Reply {
 
 /// One step by the rules with these faults.
 pub fn step_with(state: &mut State, step: Step, faults: &impl Switches) -> Reply {
-    Reply::from(perform(state, step, faults))
+    perform(state, step, faults).unwrap_or_else(Reply::from)
 }
 
 fn perform(state: &mut State, step: Step, faults: &impl Switches) -> Result<Reply, Refusal> {

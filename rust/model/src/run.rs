@@ -1,23 +1,13 @@
 //! A run over a session.
 
+use calls::{Reply, Report, Step};
+
 use crate::codec::{decode, MARK, MAX_SESSION};
-use crate::reply::{Refusal, Reply};
+use crate::faults::Switches;
+use crate::reply::Refusal;
 use crate::rules;
 use crate::state::State;
-use crate::step::Step;
 use crate::tables;
-
-/// "It reports why it stopped, the number of records taken, and the byte place just after them."
-#[derive(Clone, Copy, Debug, PartialEq, Eq)]
-pub struct Report {
-    /// "Why: 0 at the end, else 9 when the budget or the list's whole places are spent, else the
-    /// record's refusal." A refused run has the refusal's number.
-    pub why: u32,
-    /// The number of records taken.
-    pub taken: u32,
-    /// The byte place just after them; 4 if none was taken, 0 for a refused run.
-    pub place: u32,
-}
 
 /// "Why: 0 at the end"
 pub const AT_END: u32 = 0;
@@ -27,19 +17,25 @@ pub const SPENT: u32 = 9;
 /// "a list for replies, three 32-bit numbers each"
 pub const REPLY_WORDS: usize = 3;
 
-/// One step on the tables of words: 21 and 22, then the rules of `rules`.
-pub fn step_tables(store: &mut [u32], players: &mut [u32], step: Step) -> Reply {
+/// One step on the tables of words: 21 and 22, then the rules of `rules` with these faults.
+pub fn step_tables(
+    store: &mut [u32],
+    players: &mut [u32],
+    step: Step,
+    faults: &impl Switches,
+) -> Reply {
     let mut state = match tables::decode(store, players) {
         Ok(state) => state,
-        Err(error) => return Reply::refused(error.refusal()),
+        Err(error) => return Reply::from(error.refusal()),
     };
-    let reply = rules::step(&mut state, step);
+    let reply = rules::step_with(&mut state, step, faults);
     tables::encode(&state, store, players);
     reply
 }
 
-/// "A run takes tables, session, a budget and a list for replies". "For a run: 21, 22, 37, 23." A
-/// refused run changes neither the tables nor the list.
+/// "A run takes tables, session, a budget and a list for replies". "It reports why it stopped, the
+/// number of records taken, and the byte place just after them": place 4 if none was taken, 0 for a
+/// refused run. "For a run: 21, 22, 37, 23." A refused run changes neither the tables nor the list.
 pub fn run(
     store: &mut [u32],
     players: &mut [u32],
@@ -56,16 +52,7 @@ pub fn run(
             tables::encode(&state, store, players);
             report
         }
-        Err(refusal) => refused(refusal),
-    }
-}
-
-/// The report of a refused run: "its number, 0, 0".
-fn refused(refusal: Refusal) -> Report {
-    Report {
-        why: refusal.number(),
-        taken: 0,
-        place: 0,
+        Err(refusal) => Report::refused(refusal.number()),
     }
 }
 
@@ -85,13 +72,13 @@ fn test_session(session: &[u8]) -> Result<(), Refusal> {
 fn take_records(state: &mut State, session: &[u8], budget: u32, list: &mut [u32]) -> Report {
     let mut replies = list.chunks_exact_mut(REPLY_WORDS);
     let mut rest = session.get(MARK.len()..).unwrap_or(&[]);
-    let mut taken = 0;
+    let mut records = 0;
     let mut place = MARK.len() as u32;
     let why = loop {
         if rest.is_empty() {
             break AT_END;
         }
-        if taken == budget {
+        if records == budget {
             break SPENT;
         }
         let Some(words) = replies.next() else {
@@ -104,8 +91,12 @@ fn take_records(state: &mut State, session: &[u8], budget: u32, list: &mut [u32]
         let Reply { code, a, b } = rules::step(state, step);
         words.copy_from_slice(&[code, a, b]);
         rest = rest.get(length..).unwrap_or(&[]);
-        taken += 1;
+        records += 1;
         place += length as u32;
     };
-    Report { why, taken, place }
+    Report {
+        why,
+        records,
+        place,
+    }
 }

@@ -1,7 +1,8 @@
 //! Makes a failing list of steps shorter and simpler.
 
-use crate::reply::{code, Reply};
-use crate::step::{Range, Step};
+use calls::{Fields, Range, Reply, Step};
+
+use crate::reply::code;
 
 /// What came of a list.
 pub struct Outcome {
@@ -64,14 +65,10 @@ fn without(steps: &[Step], part: std::ops::Range<usize>, replies: &[Reply]) -> V
         if part.contains(&at) {
             continue;
         }
-        let kept = match step {
-            Step::Deliver { serial } => renumber(serial).map(|serial| Step::Deliver { serial }),
-            Step::Respond { serial } => renumber(serial).map(|serial| Step::Respond { serial }),
-            Step::Abandon { serial } => renumber(serial).map(|serial| Step::Abandon { serial }),
-            Step::Lose { serial } => renumber(serial).map(|serial| Step::Lose { serial }),
-            other => Some(other),
-        };
-        rest.extend(kept);
+        // A step without a serial has 0, which is never issued.
+        let fields = Fields::from(step);
+        let kept = renumber(fields.serial).map(|serial| Fields { serial, ..fields });
+        rest.extend(kept.and_then(Step::of_its_fields));
     }
     rest
 }
@@ -91,32 +88,25 @@ fn simplify(mut best: Vec<Step>, attempt: &impl Fn(&[Step]) -> Outcome) -> Vec<S
     best
 }
 
-/// Narrower ranges and smaller values, the simplest first.
+/// Narrower ranges and smaller values, the simplest first. A step without a range has none that is
+/// narrower.
 fn simpler_steps(step: Step) -> Vec<Step> {
-    match step {
-        Step::Assign { player, range } => narrower(range)
-            .into_iter()
-            .map(|range| Step::Assign { player, range })
-            .collect(),
-        Step::Release { range } => narrower(range)
-            .into_iter()
-            .map(|range| Step::Release { range })
-            .collect(),
-        Step::RequestGuard { player, range } => narrower(range)
-            .into_iter()
-            .map(|range| Step::RequestGuard { player, range })
-            .collect(),
-        Step::Write {
-            player,
+    let fields = Fields::from(step);
+    let mut simpler: Vec<Fields> = narrower(Range::new(fields.entry, fields.high))
+        .into_iter()
+        .map(|Range { low: entry, high }| Fields {
             entry,
-            value,
-        } if value > 1 => vec![Step::Write {
-            player,
-            entry,
-            value: 1,
-        }],
-        _ => Vec::new(),
+            high,
+            ..fields
+        })
+        .collect();
+    if fields.value > 1 {
+        simpler.push(Fields { value: 1, ..fields });
     }
+    simpler
+        .into_iter()
+        .filter_map(Step::of_its_fields)
+        .collect()
 }
 
 /// Ranges inside a range: its entries alone if they are few, its halves, and all but one end.

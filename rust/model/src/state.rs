@@ -1,18 +1,9 @@
 //! The state that the two tables hold, in the types a Rust program would choose.
 
-use crate::step::Range;
-use crate::store::{GuardOutcome, Store, Versioned, WriteOutcome};
+use calls::Range;
 
-/// "There are 256 entries, 0 to 255."
-pub const ENTRIES: usize = 256;
-/// "eight players (0 to 7)"
-pub const PLAYERS: usize = 8;
-/// "its owner (0 to 7, or 8 for nobody)"
-pub const NOBODY: u8 = 8;
-/// "up to 64 rows in flight"
-pub const MAX_REQUESTS: usize = 64;
-/// "One count of serials, 0 when fresh, last usable 4,000,000"
-pub const MAX_SERIAL: u32 = 4_000_000;
+use crate::numbers::{ENTRIES, NOBODY, PLAYERS};
+use crate::store::{GuardOutcome, Store, Versioned, WriteOutcome};
 
 /// "a remembered cell (guard, stamp, value), guard 0 meaning empty and then all zeros"
 #[derive(Clone, Copy, Debug, PartialEq, Eq)]
@@ -112,7 +103,7 @@ pub struct State {
     pub held: [[u32; ENTRIES]; PLAYERS],
     /// For each player and entry the cached value.
     pub cached: [[Cached; ENTRIES]; PLAYERS],
-    /// The requests in flight, in rising serial, at most [`MAX_REQUESTS`].
+    /// The requests in flight, in rising serial, at most [`MAX_REQUESTS`](crate::numbers::MAX_REQUESTS).
     pub requests: Vec<Request>,
 }
 

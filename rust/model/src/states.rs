@@ -1,8 +1,10 @@
 //! Random states that keep the table rules.
 
+use calls::Range;
+
+use crate::numbers::{MAX_REQUESTS, MAX_SERIAL, PLAYERS};
 use crate::prng::Prng;
-use crate::state::{Cached, Operation, Request, State, MAX_REQUESTS, MAX_SERIAL, PLAYERS};
-use crate::step::Range;
+use crate::state::{Cached, Operation, Request, State};
 use crate::store::{GuardOutcome, Versioned, WriteOutcome};
 
 /// A few serials that a table may hold: 0, the last one and some between.

@@ -1,10 +1,11 @@
 //! The store's side: "borders, guards, stamps and values, with what step 6 does to them and steps
 //! 10 to 12".
 
+use calls::Range;
+
 use crate::faults::{Fault, Switches};
+use crate::numbers::{Entries, ENTRIES};
 use crate::reply::Refusal;
-use crate::state::ENTRIES;
-use crate::step::Range;
 
 /// An entry's version and value.
 #[derive(Clone, Copy, Debug, PartialEq, Eq)]

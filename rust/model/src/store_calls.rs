@@ -4,17 +4,18 @@
 //! is not tested (0 or a strange number is turned back). Setting a guard replies 0, outcome, 0; a
 //! read 0, version, value; a write 0, outcome, 0."
 
+use calls::{Range, Reply};
+
 use crate::faults::{NoFault, Switches};
-use crate::reply::{code, Refusal, Reply};
-use crate::state::MAX_SERIAL;
-use crate::step::Range;
+use crate::numbers::{Entries, MAX_SERIAL};
+use crate::reply::{code, Refusal};
 use crate::store::Store;
 use crate::tables::{decode_store, encode_store, STORE_WORDS};
 
 /// "Making tables fresh tests 21 only."
 pub fn fresh(words: &mut [u32]) -> Reply {
     if words.len() != STORE_WORDS {
-        return Reply::refused(Refusal::TableLength);
+        return Reply::from(Refusal::TableLength);
     }
     encode_store(&Store::fresh(), words);
     Reply::DONE
@@ -29,7 +30,7 @@ pub fn check(words: &[u32]) -> Reply {
 pub fn check_at(words: &[u32], last_serial: u32) -> Reply {
     match decode_store(words, last_serial) {
         Ok(_) => Reply::DONE,
-        Err(error) => Reply::refused(error.refusal()),
+        Err(error) => Reply::from(error.refusal()),
     }
 }
 
@@ -41,16 +42,16 @@ fn on_store(
 ) -> Reply {
     let mut store = match decode_store(words, MAX_SERIAL) {
         Ok(store) => store,
-        Err(error) => return Reply::refused(error.refusal()),
+        Err(error) => return Reply::from(error.refusal()),
     };
     if !numbers_good {
-        return Reply::refused(Refusal::Number);
+        return Reply::from(Refusal::Number);
     }
     let result = call(&mut store);
     if result.is_ok() {
         encode_store(&store, words);
     }
-    Reply::from(result)
+    result.unwrap_or_else(Reply::from)
 }
 
 /// "a request's or write's serial of 0 or above that is 28"
@@ -73,7 +74,7 @@ pub fn read(words: &[u32], entry: u8) -> Reply {
             let held = store.read(entry);
             Reply::new(code::DONE, held.version, held.value)
         }
-        Err(error) => Reply::refused(error.refusal()),
+        Err(error) => Reply::from(error.refusal()),
     }
 }
 

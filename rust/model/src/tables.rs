@@ -4,9 +4,12 @@
 //! constants below). [`decode`] tests a rule where it reads the words under it, so a table that is
 //! decoded keeps all rules, and [`TableRule`] names the first one broken.
 
-use crate::reply::{Refusal, Reply};
+use calls::Reply;
+
+use crate::numbers::{ENTRIES, MAX_REQUESTS, MAX_SERIAL, NOBODY, PLAYERS};
+use crate::reply::Refusal;
 use crate::request_words::{decode_request, encode_request, RequestWords, REQUEST_WORDS};
-use crate::state::{Cached, Request, State, ENTRIES, MAX_REQUESTS, MAX_SERIAL, NOBODY, PLAYERS};
+use crate::state::{Cached, Request, State};
 use crate::store::Store;
 use crate::table_rules::{bit, require, TableError, TableRule};
 
@@ -255,7 +258,7 @@ pub fn tables_of(state: &State) -> (Vec<u32>, Vec<u32>) {
 /// "Making tables fresh tests 21 only."
 pub fn fresh(store: &mut [u32], players: &mut [u32]) -> Reply {
     if store.len() != STORE_WORDS || players.len() != PLAYERS_WORDS {
-        return Reply::refused(Refusal::TableLength);
+        return Reply::from(Refusal::TableLength);
     }
     encode(&State::fresh(), store, players);
     Reply::DONE
@@ -270,7 +273,7 @@ pub fn fresh_tables() -> (Vec<u32>, Vec<u32>) {
 pub fn check(store: &[u32], players: &[u32]) -> Reply {
     match decode(store, players) {
         Ok(_) => Reply::DONE,
-        Err(error) => Reply::refused(error.refusal()),
+        Err(error) => Reply::from(error.refusal()),
     }
 }
 

@@ -1,5 +1,7 @@
 //! Lists of steps from fresh tables, and the search for one that breaks demand 3.
 
+use calls::{Step, KINDS};
+
 use crate::claim::{self, Event, Violation};
 use crate::faults::Switches;
 use crate::generate::Profile;
@@ -7,7 +9,6 @@ use crate::prng::Prng;
 use crate::rules;
 use crate::shrink::{shrink, Outcome};
 use crate::state::State;
-use crate::step::Step;
 
 /// Plays the steps from fresh tables: "The first gets fresh tables, each later one those the last
 /// left". Gives the history and the state after it.
@@ -23,7 +24,7 @@ pub fn play(steps: &[Step], faults: &impl Switches) -> (Vec<Event>, State) {
 
 /// A random list of steps, each drawn for the state that the earlier ones led to.
 pub fn random_list(rng: &mut Prng, faults: &impl Switches) -> (Vec<Event>, State) {
-    let mut profile = Profile::draw(rng);
+    let mut profile = Profile::draw(rng, KINDS);
     let length = [20, 60, 200][rng.index(3)];
     let mut state = State::fresh();
     let mut history = Vec::with_capacity(length);

@@ -31,7 +31,7 @@ fn splice(column: &mut [u32], a: usize, b: usize, c: usize, items: &[u32]) {
 }
 
 /// Sets the guard over the entries from `low` up to `high`.
-pub fn rebuild(store: &mut [u32], low: usize, high: usize, guard: u32) {
+pub fn set_over(store: &mut [u32], low: usize, high: usize, guard: u32) {
     let (starts, guards) = store[256..768].split_at_mut(256);
     let k = find_place(starts, 1, low);
     let b = find_place(starts, k, high + 1);

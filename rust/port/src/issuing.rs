@@ -1,8 +1,8 @@
 //! Steps 3, 4 and 5: requests that are issued.
 
-use calls::{Reply, Request};
+use calls::{Range, Reply, Request};
 
-use crate::{cells, issued, refuse, region, Range, SERIALS};
+use crate::{cells, ends, issued, region, SERIALS};
 
 /// Adds a request at place `k`, the first that is not used; its serial is the last one issued.
 fn add(players: &mut [u32], k: usize, r: Request) {
@@ -13,24 +13,24 @@ fn add(players: &mut [u32], k: usize, r: Request) {
 /// Step 3: the player must own every entry of the range, and its guards there are cleared.
 pub fn request_guard(players: &mut [u32], player: u8, range: Range) -> Reply {
     if player > 7 {
-        return refuse(28);
+        return Reply::refused(28);
     }
-    let Some((low, high)) = range.ends() else {
-        return refuse(28);
+    let Some((low, high)) = ends(range) else {
+        return Reply::refused(28);
     };
     if !cells::all_are(&players[1 + low..1 + high], u32::from(player)) {
-        return refuse(29);
+        return Reply::refused(29);
     }
     let scan = region::scan_requests(&players[8705..9473], player, range);
     if scan.hit {
-        return refuse(31);
+        return Reply::refused(31);
     }
     if scan.used >= 64 {
-        return refuse(33);
+        return Reply::refused(33);
     }
     let last = players[0];
     if last >= SERIALS {
-        return refuse(34);
+        return Reply::refused(34);
     }
     let i = usize::from(player) * 256;
     cells::clear(players, i + low, i + high);
@@ -49,22 +49,18 @@ pub fn request_guard(players: &mut [u32], player: u8, range: Range) -> Reply {
 /// Step 4: from the cache if it holds a live value, else a request.
 pub fn read(players: &mut [u32], player: u8, entry: u8) -> Reply {
     if player > 7 {
-        return refuse(28);
+        return Reply::refused(28);
     }
     let i = usize::from(player) * 256 + usize::from(entry);
     if cells::is_hit(players, player, entry) {
-        return Reply {
-            code: 2,
-            a: players[4609 + i],
-            b: players[6657 + i],
-        };
+        return Reply::new(2, players[4609 + i], players[6657 + i]);
     }
     if region::is_full(&players[8705..9473]) {
-        return refuse(33);
+        return Reply::refused(33);
     }
     let last = players[0];
     if last >= SERIALS {
-        return refuse(34);
+        return Reply::refused(34);
     }
     let guard = cells::live_guard(players, player, entry);
     let scan = region::scan_writes(&players[8705..9473], player, entry);
@@ -74,7 +70,7 @@ pub fn read(players: &mut [u32], player: u8, entry: u8) -> Reply {
         kind: 4,
         low: entry,
         guard,
-        overlapped: scan.hit,
+        overlapped: u8::from(scan.hit),
         ..Request::default()
     };
     add(players, scan.used, request);
@@ -84,22 +80,22 @@ pub fn read(players: &mut [u32], player: u8, entry: u8) -> Reply {
 /// Step 5: needs ownership and a live guard, which the request carries.
 pub fn write(players: &mut [u32], player: u8, entry: u8, value: u32) -> Reply {
     if player > 7 {
-        return refuse(28);
+        return Reply::refused(28);
     }
     let e = usize::from(entry);
     if players[1 + e] != u32::from(player) {
-        return refuse(29);
+        return Reply::refused(29);
     }
     let guard = cells::live_guard(players, player, entry);
     if guard == 0 {
-        return refuse(30);
+        return Reply::refused(30);
     }
     if region::is_full(&players[8705..9473]) {
-        return refuse(33);
+        return Reply::refused(33);
     }
     let last = players[0];
     if last >= SERIALS {
-        return refuse(34);
+        return Reply::refused(34);
     }
     cells::cache(players, usize::from(player) * 256 + e, 0, 0, 0);
     let scan = region::cross(&mut players[8705..9473], player, entry);
@@ -110,7 +106,7 @@ pub fn write(players: &mut [u32], player: u8, entry: u8, value: u32) -> Reply {
         low: entry,
         value,
         guard,
-        overlapped: scan.hit,
+        overlapped: u8::from(scan.hit),
         ..Request::default()
     };
     add(players, scan.used, request);

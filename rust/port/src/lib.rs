@@ -3,7 +3,8 @@
 //!
 //! It is a translation of the proved code and no evidence by itself: what is wrong there would be
 //! wrong here. It serves as the baseline of `bench`, and stands in where the static library is not
-//! built. The modules are those of the crates.
+//! built. It knows the kinds 1 to 13, and refuses every later one with 26. The modules are those of
+//! the crates.
 
 #![forbid(unsafe_code)]
 #![warn(missing_docs)]
@@ -28,7 +29,7 @@ mod words;
 
 pub use exports::Port;
 
-use calls::Reply;
+use calls::{Range, Reply, UNKNOWN_KIND};
 
 /// Words of the store's table.
 const STORE: usize = 1_280;
@@ -36,59 +37,30 @@ const STORE: usize = 1_280;
 const PLAYERS: usize = 9_473;
 /// The last serial.
 const SERIALS: u32 = 4_000_000;
+/// The last kind.
+const KINDS: u8 = 13;
 
-/// A reply that is a code alone: a refusal, or 0 for done.
-fn refuse(code: u32) -> Reply {
-    Reply { code, a: 0, b: 0 }
+/// Tests a kind: 26 where the port does not know it.
+fn known(kind: u8) -> Result<(), u32> {
+    if (1..=KINDS).contains(&kind) {
+        Ok(())
+    } else {
+        Err(UNKNOWN_KIND)
+    }
 }
 
 /// What is done, with its outcome.
 fn answer(outcome: u32) -> Reply {
-    Reply {
-        code: 0,
-        a: outcome,
-        b: 0,
-    }
+    Reply::new(0, outcome, 0)
 }
 
 /// The reply of a step that takes a serial.
 fn issued(serial: u32) -> Reply {
-    Reply {
-        code: 1,
-        a: serial,
-        b: 0,
-    }
+    Reply::new(1, serial, 0)
 }
 
-/// The entries from `low` up to, not including, `high`.
-#[derive(Clone, Copy, Debug, PartialEq, Eq)]
-struct Range {
-    low: u8,
-    high: u16,
-}
-
-impl Range {
-    /// Both ends as indices, or none where 28 refuses the range.
-    fn ends(self) -> Option<(usize, usize)> {
-        let (low, high) = (usize::from(self.low), usize::from(self.high));
-        (low < high && high <= 256).then_some((low, high))
-    }
-}
-
-/// A step: its kind, with that kind's fields.
-#[derive(Clone, Copy, Debug, PartialEq, Eq)]
-enum Step {
-    Assign { player: u8, range: Range },
-    Release { range: Range },
-    RequestGuard { player: u8, range: Range },
-    Read { player: u8, entry: u8 },
-    Write { player: u8, entry: u8, value: u32 },
-    Deliver { serial: u32 },
-    Respond { serial: u32 },
-    Abandon { serial: u32 },
-    Lose { serial: u32 },
-    Split { entry: u8 },
-    Merge { entry: u8 },
-    RestartTablet { entry: u8 },
-    RestartPlayer { player: u8 },
+/// Both ends of a range as indices, or none where 28 refuses it.
+fn ends(range: Range) -> Option<(usize, usize)> {
+    let (low, high) = (usize::from(range.low), usize::from(range.high));
+    (low < high && high <= 256).then_some((low, high))
 }

@@ -1,17 +1,17 @@
 //! Steps 1 and 2: who owns the entries.
 
-use calls::Reply;
+use calls::{Range, Reply};
 
-use crate::{issued, refuse, Range, SERIALS};
+use crate::{ends, issued, SERIALS};
 
 /// A serial is taken; owner (8 for nobody) and epoch are set over the range.
 fn set_owner(players: &mut [u32], owner: u8, range: Range) -> Reply {
-    let Some((low, high)) = range.ends() else {
-        return refuse(28);
+    let Some((low, high)) = ends(range) else {
+        return Reply::refused(28);
     };
     let last = players[0];
     if last >= SERIALS {
-        return refuse(34);
+        return Reply::refused(34);
     }
     let serial = last + 1;
     players[0] = serial;
@@ -23,7 +23,7 @@ fn set_owner(players: &mut [u32], owner: u8, range: Range) -> Reply {
 /// Step 1: the player owns the range.
 pub fn assign(players: &mut [u32], player: u8, range: Range) -> Reply {
     if player > 7 {
-        return refuse(28);
+        return Reply::refused(28);
     }
     set_owner(players, player, range)
 }

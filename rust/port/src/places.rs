@@ -1,8 +1,6 @@
 //! One place of the requests region: 12 words, which hold a request; and tests of one request.
 
-use calls::Request;
-
-use crate::Range;
+use calls::{Range, Request};
 
 /// The request of place `k`.
 pub fn request_at(region: &[u32], k: usize) -> Request {
@@ -15,9 +13,9 @@ pub fn request_at(region: &[u32], k: usize) -> Request {
         high: (words[4] % 65536) as u16,
         value: words[5],
         guard: words[6],
-        overlapped: words[7] == 1,
-        delivered: words[8] == 1,
-        abandoned: words[9] == 1,
+        overlapped: u8::from(words[7] == 1),
+        delivered: u8::from(words[8] == 1),
+        abandoned: u8::from(words[9] == 1),
         first: words[10],
         second: words[11],
     }
@@ -65,7 +63,7 @@ pub fn carry(region: &mut [u32], j: usize, k: usize, player: u8) -> usize {
 
 /// A pending guard request of the player that shares an entry with the range.
 pub fn is_requesting(r: Request, player: u8, range: Range) -> bool {
-    !r.abandoned
+    r.abandoned == 0
         && r.kind == 3
         && r.player == player
         && u16::from(r.low) < range.high
@@ -74,18 +72,18 @@ pub fn is_requesting(r: Request, player: u8, range: Range) -> bool {
 
 /// A pending write of the player on the entry.
 pub fn is_writing(r: Request, player: u8, entry: u8) -> bool {
-    !r.abandoned && r.kind == 5 && r.player == player && r.low == entry
+    r.abandoned == 0 && r.kind == 5 && r.player == player && r.low == entry
 }
 
 /// A pending read or write of the player on the entry.
 pub fn is_using(r: Request, player: u8, entry: u8) -> bool {
-    !r.abandoned && r.kind != 3 && r.player == player && r.low == entry
+    r.abandoned == 0 && r.kind != 3 && r.player == player && r.low == entry
 }
 
 /// Whether a request remains when the player restarts: all but those of its pending ones that are
 /// delivered.
 fn remains(r: Request, player: u8) -> bool {
-    r.player != player || r.abandoned || !r.delivered
+    r.player != player || r.abandoned != 0 || r.delivered == 0
 }
 
 /// Whether the fields that a request's kind has, and those that it lacks, keep the rules.
@@ -96,7 +94,7 @@ fn fields_hold(r: Request) -> bool {
                 && r.high <= 256
                 && r.value == 0
                 && r.guard == 0
-                && !r.overlapped
+                && r.overlapped == 0
         }
         4 => r.high == 0 && r.value == 0,
         5 => r.high == 0 && r.guard != 0,
@@ -106,10 +104,10 @@ fn fields_hold(r: Request) -> bool {
 
 /// Whether a request's outcome keeps the rules.
 fn outcome_holds(r: Request, last: u32) -> bool {
-    if !r.delivered {
+    if r.delivered == 0 {
         return r.first == 0 && r.second == 0;
     }
-    if r.abandoned {
+    if r.abandoned != 0 {
         return false;
     }
     if r.kind == 4 {

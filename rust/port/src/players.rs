@@ -3,12 +3,12 @@
 use calls::Reply;
 
 use crate::words::at_most;
-use crate::{refuse, region, store, PLAYERS, SERIALS, STORE};
+use crate::{region, store, PLAYERS, SERIALS, STORE};
 
 /// Makes both tables fresh.
 pub fn fresh(store: &mut [u32], players: &mut [u32]) -> Reply {
     if store.len() != STORE || players.len() != PLAYERS {
-        return refuse(21);
+        return Reply::refused(21);
     }
     players.fill(0);
     players[1..257].fill(8);
@@ -46,10 +46,10 @@ fn players_hold(players: &[u32]) -> bool {
 /// Whether both tables keep the rules.
 pub fn check(store: &[u32], players: &[u32]) -> Reply {
     if store.len() != STORE || players.len() != PLAYERS {
-        return refuse(21);
+        return Reply::refused(21);
     }
     if store::check_at(store, players[0]).code != 0 || !players_hold(players) {
-        return refuse(22);
+        return Reply::refused(22);
     }
-    refuse(0)
+    Reply::DONE
 }

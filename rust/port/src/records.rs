@@ -1,8 +1,8 @@
 //! Records, and the session's mark.
 
-use calls::Reply;
+use calls::{Fields, Range, Reply, Step};
 
-use crate::{answer, refuse, Range, Step};
+use crate::{answer, known};
 
 /// The length of a record with each map.
 const LENGTHS: [u8; 64] = [
@@ -33,10 +33,7 @@ fn word32(part: &[u8], at: usize) -> u32 {
 }
 
 fn range_at(part: &[u8], at: usize) -> Range {
-    Range {
-        low: byte_at(part, at),
-        high: word16(part, at + 1),
-    }
+    Range::new(byte_at(part, at), word16(part, at + 1))
 }
 
 /// The step of a kind whose fields stand in the part.
@@ -100,9 +97,7 @@ pub fn decode(part: &[u8]) -> Result<(Step, usize), u32> {
         return Err(27);
     }
     let kind = byte_at(part, 1);
-    if !(1..=13).contains(&kind) {
-        return Err(26);
-    }
+    known(kind)?;
     if map != MAPS[usize::from(kind)] {
         return Err(27);
     }
@@ -111,46 +106,27 @@ pub fn decode(part: &[u8]) -> Result<(Step, usize), u32> {
 
 /// The bytes of a step's record, in the first places, and their number.
 fn bytes_of(step: Step) -> ([u8; 8], usize) {
-    let range_bytes = |kind, player, range: Range| {
-        let [h, i] = range.high.to_le_bytes();
-        ([0x0F, kind, player, range.low, h, i, 0, 0], 6)
-    };
-    let serial_bytes = |kind, serial: u32| {
-        let [s, t, u, v] = serial.to_le_bytes();
-        ([0x21, kind, s, t, u, v, 0, 0], 6)
-    };
-    let short_bytes = |map, kind, field| ([map, kind, field, 0, 0, 0, 0, 0], 3);
-    match step {
-        Step::Assign { player, range } => range_bytes(1, player, range),
-        Step::Release { range } => {
-            let [h, i] = range.high.to_le_bytes();
-            ([0x0D, 2, range.low, h, i, 0, 0, 0], 5)
-        }
-        Step::RequestGuard { player, range } => range_bytes(3, player, range),
-        Step::Read { player, entry } => ([0x07, 4, player, entry, 0, 0, 0, 0], 4),
-        Step::Write {
-            player,
-            entry,
-            value,
-        } => {
-            let [s, t, u, v] = value.to_le_bytes();
-            ([0x17, 5, player, entry, s, t, u, v], 8)
-        }
-        Step::Deliver { serial } => serial_bytes(6, serial),
-        Step::Respond { serial } => serial_bytes(7, serial),
-        Step::Abandon { serial } => serial_bytes(8, serial),
-        Step::Lose { serial } => serial_bytes(9, serial),
-        Step::Split { entry } => short_bytes(0x05, 10, entry),
-        Step::Merge { entry } => short_bytes(0x05, 11, entry),
-        Step::RestartTablet { entry } => short_bytes(0x05, 12, entry),
-        Step::RestartPlayer { player } => short_bytes(0x03, 13, player),
+    let f = Fields::from(step);
+    let (kind, player, entry) = (f.kind, f.player, f.entry);
+    let map = MAPS[usize::from(kind)];
+    let [h, i] = f.high.to_le_bytes();
+    let [v, w, x, y] = f.value.to_le_bytes();
+    let [s, t, u, z] = f.serial.to_le_bytes();
+    match kind {
+        1 | 3 => ([map, kind, player, entry, h, i, 0, 0], 6),
+        2 => ([map, kind, entry, h, i, 0, 0, 0], 5),
+        4 => ([map, kind, player, entry, 0, 0, 0, 0], 4),
+        5 => ([map, kind, player, entry, v, w, x, y], 8),
+        6..=9 => ([map, kind, s, t, u, z, 0, 0], 6),
+        10..=12 => ([map, kind, entry, 0, 0, 0, 0, 0], 3),
+        _ => ([map, kind, player, 0, 0, 0, 0, 0], 3),
     }
 }
 
 /// Writes bytes to the start of the buffer: 0 and their number, or 36 where the buffer is shorter.
 fn put(bytes: &[u8], out: &mut [u8]) -> Reply {
     let Some(place) = out.get_mut(..bytes.len()) else {
-        return refuse(36);
+        return Reply::refused(36);
     };
     place.copy_from_slice(bytes);
     answer(bytes.len() as u32)

@@ -1,12 +1,11 @@
 //! The calls on the requests region. One that is not whole, of 768 words, has no requests and stays
 //! as it is.
 
-use calls::Request;
+use calls::{Range, Request};
 
 use crate::places::{
     carry, close, is_requesting, is_using, is_writing, places_hold, put_request, request_at,
 };
-use crate::Range;
 
 const REGION: usize = 768;
 

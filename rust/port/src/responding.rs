@@ -2,7 +2,7 @@
 
 use calls::{Reply, Request};
 
-use crate::{cells, refuse, region};
+use crate::{cells, region};
 
 /// Whether the player owns each entry from `low` up to `high` with an epoch below the serial; false
 /// where that is no range.
@@ -22,7 +22,7 @@ fn still_owned(players: &[u32], r: Request) -> bool {
 /// Caches a value for the entry if the guard carried is the player's live one, and no write crossed
 /// it.
 fn remember(players: &mut [u32], r: Request, version: u32, value: u32) {
-    if r.guard == 0 || r.overlapped || cells::live_guard(players, r.player, r.low) != r.guard {
+    if r.guard == 0 || r.overlapped != 0 || cells::live_guard(players, r.player, r.low) != r.guard {
         return;
     }
     let i = usize::from(r.player) * 256 + usize::from(r.low);
@@ -31,11 +31,7 @@ fn remember(players: &mut [u32], r: Request, version: u32, value: u32) {
 
 /// A guard request: granted, or the layout changed, or no longer held.
 fn respond_guard_request(players: &mut [u32], r: Request) -> Reply {
-    let said = |code| Reply {
-        code,
-        a: r.serial,
-        b: 0,
-    };
+    let said = |code| Reply::new(code, r.serial, 0);
     if !still_owned(players, r) {
         return said(7);
     }
@@ -50,38 +46,26 @@ fn respond_guard_request(players: &mut [u32], r: Request) -> Reply {
 /// A read: its outcome, cached if it may be.
 fn respond_read(players: &mut [u32], r: Request) -> Reply {
     remember(players, r, r.first, r.second);
-    Reply {
-        code: 3,
-        a: r.first,
-        b: r.second,
-    }
+    Reply::new(3, r.first, r.second)
 }
 
 /// A write: committed, and cached if it may be; or rejected, and the guard carried is dropped.
 fn respond_write(players: &mut [u32], r: Request) -> Reply {
     if r.first != 1 {
         cells::drop_guard(players, r.player, r.guard);
-        return Reply {
-            code: 5,
-            a: r.serial,
-            b: 0,
-        };
+        return Reply::new(5, r.serial, 0);
     }
     remember(players, r, r.serial, r.value);
-    Reply {
-        code: 4,
-        a: r.serial,
-        b: r.value,
-    }
+    Reply::new(4, r.serial, r.value)
 }
 
 /// Step 7: the request leaves, and its outcome takes effect at the player.
 pub fn respond(players: &mut [u32], serial: u32) -> Reply {
     let Some((place, request)) = region::find(&players[8705..9473], serial) else {
-        return refuse(32);
+        return Reply::refused(32);
     };
-    if !request.delivered || request.abandoned {
-        return refuse(32);
+    if request.delivered == 0 || request.abandoned != 0 {
+        return Reply::refused(32);
     }
     region::remove(&mut players[8705..9473], place);
     match request.kind {

@@ -5,14 +5,6 @@ use calls::Report;
 use crate::records::{decode, marked};
 use crate::{players, steps};
 
-fn refused(why: u32) -> Report {
-    Report {
-        why,
-        records: 0,
-        place: 0,
-    }
-}
-
 /// A run: the tables and the session are tested once, then each record is taken.
 pub fn run(
     store: &mut [u32],
@@ -23,13 +15,13 @@ pub fn run(
 ) -> Report {
     let tested = players::check(store, players);
     if tested.code != 0 {
-        return refused(tested.code);
+        return Report::refused(tested.code);
     }
     if session.len() > 16_384 {
-        return refused(37);
+        return Report::refused(37);
     }
     if !marked(session) {
-        return refused(23);
+        return Report::refused(23);
     }
     let mut places = replies.chunks_exact_mut(3);
     let mut records = 0;
@@ -47,7 +39,7 @@ pub fn run(
         match decode(&session[place..]) {
             Err(number) => break number,
             Ok((step, length)) => {
-                let said = steps::take(store, players, step);
+                let said = steps::apply(store, players, step);
                 reply.copy_from_slice(&[said.code, said.a, said.b]);
                 records += 1;
                 place += length;

@@ -1,16 +1,13 @@
 //! The steps, on the store's table and the players'.
 
-use calls::Reply;
+use calls::{Reply, Step, UNKNOWN_KIND};
 
-use crate::{
-    issuing, leaving, ownership, players, refuse, responding, store, store_steps, Step, PLAYERS,
-    STORE,
-};
+use crate::{issuing, leaving, ownership, players, responding, store, store_steps, PLAYERS, STORE};
 
 /// A step on tables that are known to keep the rules: their lengths alone are tested.
-pub fn take(store: &mut [u32], players: &mut [u32], next: Step) -> Reply {
+pub fn apply(store: &mut [u32], players: &mut [u32], next: Step) -> Reply {
     if store.len() != STORE || players.len() != PLAYERS {
-        return refuse(21);
+        return Reply::refused(21);
     }
     match next {
         Step::Assign { player, range } => ownership::assign(players, player, range),
@@ -26,10 +23,13 @@ pub fn take(store: &mut [u32], players: &mut [u32], next: Step) -> Reply {
         Step::Respond { serial } => responding::respond(players, serial),
         Step::Abandon { serial } => leaving::abandon(players, serial),
         Step::Lose { serial } => leaving::lose(players, serial),
-        Step::Split { entry } => store::steps::split(store, entry),
-        Step::Merge { entry } => store::steps::merge(store, entry),
-        Step::RestartTablet { entry } => store::steps::restart(store, entry),
+        Step::Split { entry } => store::unchecked::split(store, entry),
+        Step::Merge { entry } => store::unchecked::merge(store, entry),
+        Step::RestartTablet { entry } => store::unchecked::restart(store, entry),
         Step::RestartPlayer { player } => leaving::restart_player(players, player),
+        // A later kind; `known` refuses it before it comes here.
+        #[allow(unreachable_patterns)]
+        _ => Reply::refused(UNKNOWN_KIND),
     }
 }
 
@@ -39,5 +39,5 @@ pub fn step(store: &mut [u32], players: &mut [u32], next: Step) -> Reply {
     if tested.code != 0 {
         return tested;
     }
-    take(store, players, next)
+    apply(store, players, next)
 }

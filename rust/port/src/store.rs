@@ -1,18 +1,18 @@
 //! The store: its calls with the test of the table, and (module `steps`) without.
 
-use calls::Reply;
+use calls::{Range, Reply};
 
 use crate::words::at_most;
-use crate::{answer, refuse, Range, SERIALS, STORE};
+use crate::{answer, SERIALS, STORE};
 
 /// Makes the table of a fresh store.
 pub fn fresh(store: &mut [u32]) -> Reply {
     if store.len() != STORE {
-        return refuse(21);
+        return Reply::refused(21);
     }
     store.fill(0);
     store[0] = 1;
-    answer(0)
+    Reply::DONE
 }
 
 /// Whether all places from `k` on are 0.
@@ -51,12 +51,12 @@ fn table_holds(store: &[u32], last: u32) -> bool {
 /// Whether a table keeps the rules, where `last` is the last serial issued.
 pub fn check_at(store: &[u32], last: u32) -> Reply {
     if store.len() != STORE {
-        return refuse(21);
+        return Reply::refused(21);
     }
     if !table_holds(store, last) {
-        return refuse(22);
+        return Reply::refused(22);
     }
-    answer(0)
+    Reply::DONE
 }
 
 /// Whether a table keeps the rules.
@@ -81,9 +81,9 @@ fn tested(store: &mut [u32], call: impl FnOnce(&mut [u32]) -> Reply) -> Reply {
 pub fn set_guard(store: &mut [u32], range: Range, serial: u32) -> Reply {
     tested(store, |store| {
         if bad_serial(serial) {
-            return refuse(28);
+            return Reply::refused(28);
         }
-        steps::install(store, range, serial)
+        unchecked::install(store, range, serial)
     })
 }
 
@@ -93,58 +93,58 @@ pub fn read(store: &[u32], entry: u8) -> Reply {
     if tested.code != 0 {
         return tested;
     }
-    steps::read(store, entry)
+    unchecked::read(store, entry)
 }
 
 /// A write that commits if the guard it carries is the entry's, and not 0.
 pub fn write(store: &mut [u32], entry: u8, value: u32, serial: u32, guard: u32) -> Reply {
     tested(store, |store| {
         if bad_serial(serial) {
-            return refuse(28);
+            return Reply::refused(28);
         }
-        steps::commit(store, entry, value, serial, guard)
+        unchecked::commit(store, entry, value, serial, guard)
     })
 }
 
 /// A boundary before an entry.
 pub fn split(store: &mut [u32], entry: u8) -> Reply {
-    tested(store, |store| steps::split(store, entry))
+    tested(store, |store| unchecked::split(store, entry))
 }
 
 /// The boundary before an entry removed.
 pub fn merge(store: &mut [u32], entry: u8) -> Reply {
-    tested(store, |store| steps::merge(store, entry))
+    tested(store, |store| unchecked::merge(store, entry))
 }
 
 /// The guards of the tablet that holds an entry become 0.
 pub fn restart(store: &mut [u32], entry: u8) -> Reply {
-    tested(store, |store| steps::restart(store, entry))
+    tested(store, |store| unchecked::restart(store, entry))
 }
 
 /// The store's operations on a table that is known to keep the rules: only the length is tested.
-pub mod steps {
+pub mod unchecked {
     use super::*;
-    use crate::{guards, tablets};
+    use crate::{ends, guards, tablets};
 
     /// Sets a guard over a range that lies in one tablet.
     pub fn install(store: &mut [u32], range: Range, guard: u32) -> Reply {
         if store.len() != STORE {
-            return refuse(21);
+            return Reply::refused(21);
         }
-        let Some((low, high)) = range.ends() else {
-            return refuse(28);
+        let Some((low, high)) = ends(range) else {
+            return Reply::refused(28);
         };
         if !tablets::one_tablet(&store[..256], low, high) {
             return answer(2);
         }
-        guards::rebuild(store, low, high, guard);
+        guards::set_over(store, low, high, guard);
         answer(1)
     }
 
     /// The version and value of an entry.
     pub fn read(store: &[u32], entry: u8) -> Reply {
         if store.len() != STORE {
-            return refuse(21);
+            return Reply::refused(21);
         }
         let e = usize::from(entry);
         Reply {
@@ -157,7 +157,7 @@ pub mod steps {
     /// A write that commits if the guard it carries is the entry's, and not 0.
     pub fn commit(store: &mut [u32], entry: u8, value: u32, serial: u32, guard: u32) -> Reply {
         if store.len() != STORE {
-            return refuse(21);
+            return Reply::refused(21);
         }
         if guard == 0 {
             return answer(2);
@@ -174,44 +174,44 @@ pub mod steps {
     /// A boundary before an entry.
     pub fn split(store: &mut [u32], entry: u8) -> Reply {
         if store.len() != STORE {
-            return refuse(21);
+            return Reply::refused(21);
         }
         let e = usize::from(entry);
         if e == 0 {
-            return refuse(28);
+            return Reply::refused(28);
         }
         if store[e] == 1 {
-            return refuse(35);
+            return Reply::refused(35);
         }
         store[e] = 1;
-        answer(0)
+        Reply::DONE
     }
 
     /// The boundary before an entry removed.
     pub fn merge(store: &mut [u32], entry: u8) -> Reply {
         if store.len() != STORE {
-            return refuse(21);
+            return Reply::refused(21);
         }
         let e = usize::from(entry);
         if e == 0 {
-            return refuse(28);
+            return Reply::refused(28);
         }
         if store[e] == 0 {
-            return refuse(35);
+            return Reply::refused(35);
         }
         store[e] = 0;
-        answer(0)
+        Reply::DONE
     }
 
     /// The guards of the tablet that holds an entry become 0.
     pub fn restart(store: &mut [u32], entry: u8) -> Reply {
         if store.len() != STORE {
-            return refuse(21);
+            return Reply::refused(21);
         }
         let e = usize::from(entry);
         let low = tablets::tablet_start(&store[..256], e);
         let high = tablets::tablet_limit(&store[..256], e);
-        guards::rebuild(store, low, high, 0);
-        answer(0)
+        guards::set_over(store, low, high, 0);
+        Reply::DONE
     }
 }

@@ -1,9 +1,9 @@
 //! Step 6, which reads or writes the store's table.
 
-use calls::{Reply, Request};
+use calls::{Range, Reply, Request};
 
-use crate::store::steps;
-use crate::{refuse, region, Range};
+use crate::region;
+use crate::store::unchecked;
 
 /// What the store does with a request that is delivered. The reply's two numbers are the outcome.
 fn perform(store: &mut [u32], r: Request) -> Reply {
@@ -13,10 +13,10 @@ fn perform(store: &mut [u32], r: Request) -> Reply {
                 low: r.low,
                 high: r.high,
             };
-            steps::install(store, range, r.serial)
+            unchecked::install(store, range, r.serial)
         }
-        4 => steps::read(store, r.low),
-        _ => steps::commit(store, r.low, r.value, r.serial, r.guard),
+        4 => unchecked::read(store, r.low),
+        _ => unchecked::commit(store, r.low, r.value, r.serial, r.guard),
     }
 }
 
@@ -24,16 +24,16 @@ fn perform(store: &mut [u32], r: Request) -> Reply {
 pub fn deliver(store: &mut [u32], players: &mut [u32], serial: u32) -> Reply {
     let region = &mut players[8705..9473];
     let Some((place, request)) = region::find(region, serial) else {
-        return refuse(32);
+        return Reply::refused(32);
     };
-    if request.delivered {
-        return refuse(32);
+    if request.delivered != 0 {
+        return Reply::refused(32);
     }
     let outcome = perform(store, request);
-    if request.abandoned {
+    if request.abandoned != 0 {
         region::remove(region, place);
     } else {
         region::deliver(region, place, outcome.a, outcome.b);
     }
-    refuse(0)
+    Reply::DONE
 }

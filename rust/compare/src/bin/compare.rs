@@ -31,7 +31,7 @@ fn compare(library: &impl Library, plan: Plan) -> ExitCode {
             }
         }
     }
-    let (table, wrong, good) = counts.table();
+    let (table, wrong, good) = counts.table(library.kinds());
     print!("{table}");
     for line in &wrong {
         println!("FAILED: {line}");

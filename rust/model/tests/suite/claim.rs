@@ -1,11 +1,10 @@
 //! The checker of demand 3: it lets right histories by, and each sentence fails on a history made
 //! to break it.
 
+use calls::{Reply, Step};
 use model::claim::{check, Event, Sentence, Violation};
 use model::faults::NoFault;
 use model::ledger::{Ledger, OperationId};
-use model::reply::Reply;
-use model::step::Step;
 use model::store::Store;
 use model::trial::play;
 

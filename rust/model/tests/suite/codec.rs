@@ -1,18 +1,17 @@
 //! Records: round trips, the order of refusals, the session's mark.
 
+use calls::{Step, KINDS};
 use model::codec::*;
 use model::generate::any_step;
 use model::prng::Prng;
 use model::reply::Refusal;
-use model::step::Step;
 
 use crate::support::*;
 
-/// "Maps: 0F for kinds 1 and 3; 0D for 2; 07 for 4; 17 for 5; 21 for 6 to 9; 05 for 10 to 12; 03
-/// for 13." Little-endian, fields in the order of their bits.
-#[test]
-fn records_by_hand() {
-    let cases = [
+/// A step of each kind with its record. "Maps: 0F for kinds 1 and 3; 0D for 2; 07 for 4; 17 for 5; 21
+/// for 6 to 9; 05 for 10 to 12; 03 for 13." Little-endian, fields in the order of their bits.
+fn by_hand() -> [(Step, &'static str); KINDS as usize] {
+    [
         (assign(1, 2, 0x103), "0F 01 01 02 0301"),
         (release(2, 3), "0D 02 02 0300"),
         (ask(9, 2, 0xFFFF), "0F 03 09 02 FFFF"),
@@ -26,10 +25,14 @@ fn records_by_hand() {
         (merge(1), "05 0B 01"),
         (restart_tablet(2), "05 0C 02"),
         (restart_player(3), "03 0D 03"),
-    ];
-    for (kind, (step, text)) in (1..).zip(cases) {
+    ]
+}
+
+#[test]
+fn records_by_hand() {
+    for (kind, (step, text)) in (1..).zip(by_hand()) {
         let bytes = hex(text);
-        assert_eq!(step.kind(), kind);
+        assert_eq!((step.kind(), bytes[1]), (kind, kind));
         assert_eq!(record(step), bytes);
         assert_eq!(decode(&bytes), Ok((step, bytes.len())));
     }
@@ -76,7 +79,7 @@ fn short_inputs() {
             let expected = match (map, next) {
                 (0x40.., _) => Refusal::RecordBits,
                 (0x00 | 0x02 | 0x04, _) => Refusal::RecordFields,
-                (0x01, 1..=13) => Refusal::RecordFields,
+                (0x01, 1..=KINDS) => Refusal::RecordFields,
                 (0x01, _) => Refusal::RecordKind,
                 _ => Refusal::RecordCut,
             };
@@ -88,6 +91,7 @@ fn short_inputs() {
 /// For every map and kind with all other bytes there: only the kind's own map is read.
 #[test]
 fn every_map_and_kind() {
+    let maps = by_hand().map(|(_, text)| hex(text)[0]);
     for map in 0..=255_u8 {
         for kind in 0..=255_u8 {
             let mut bytes = vec![map];
@@ -95,26 +99,17 @@ fn every_map_and_kind() {
                 bytes.push(kind);
             }
             bytes.resize(20, 0x11);
-            let own = match kind {
-                1 | 3 => 0x0F,
-                2 => 0x0D,
-                4 => 0x07,
-                5 => 0x17,
-                6..=9 => 0x21,
-                10..=12 => 0x05,
-                13 => 0x03,
-                _ => 0xFF,
-            };
+            let own = maps.get(usize::from(kind).wrapping_sub(1));
             match decode(&bytes) {
                 Ok((step, length)) => {
-                    assert_eq!((map, step.kind()), (own, kind));
+                    assert_eq!((Some(&map), step.kind()), (own, kind));
                     assert_eq!(record(step), bytes[..length]);
                 }
                 Err(refusal) if map >= 0x40 => assert_eq!(refusal, Refusal::RecordBits),
                 Err(refusal) if map & 1 == 0 => assert_eq!(refusal, Refusal::RecordFields),
-                Err(refusal) if own == 0xFF => assert_eq!(refusal, Refusal::RecordKind),
+                Err(refusal) if own.is_none() => assert_eq!(refusal, Refusal::RecordKind),
                 Err(refusal) => {
-                    assert_ne!(map, own);
+                    assert_ne!(Some(&map), own);
                     assert_eq!(refusal, Refusal::RecordFields);
                 }
             }
@@ -127,7 +122,7 @@ fn every_map_and_kind() {
 fn cut_records() {
     let mut rng = Prng::new(3);
     for _ in 0..300 * scale() {
-        let step = any_step(&mut rng);
+        let step = any_step(&mut rng, KINDS);
         let bytes = record(step);
         for length in 0..bytes.len() {
             assert_eq!(decode(&bytes[..length]), Err(Refusal::RecordCut));

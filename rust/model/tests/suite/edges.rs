@@ -1,9 +1,10 @@
 //! Every case of "At the edges".
 
 use model::codec::decode;
+use model::numbers::MAX_SERIAL;
 use model::reply::Refusal;
 use model::rules;
-use model::state::{State, MAX_SERIAL};
+use model::state::State;
 
 use crate::support::*;
 

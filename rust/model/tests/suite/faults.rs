@@ -1,13 +1,13 @@
 //! Every fault is caught: by demand 3 on a generated list, or, where demand 3 lets it by, only by
 //! comparison with the right rules.
 
+use calls::{Range, KINDS};
 use model::codec::session_text;
 use model::faults::{Fault, NoFault};
 use model::generate::Profile;
 use model::prng::Prng;
 use model::rules::{step, step_with};
 use model::state::State;
-use model::step::Range;
 use model::store_calls;
 use model::tables::STORE_WORDS;
 use model::trial::{play, search};
@@ -61,7 +61,7 @@ fn differs_after(fault: Fault) -> Option<usize> {
     let mut rng = Prng::new(seed());
     let mut played = 0;
     while played < 1_000_000 {
-        let mut profile = Profile::draw(&mut rng);
+        let mut profile = Profile::draw(&mut rng, KINDS);
         let (mut right, mut wrong) = (State::fresh(), State::fresh());
         for _ in 0..100 {
             let next = profile.next_step(&mut rng, &right);

@@ -1,17 +1,17 @@
 //! Counting a player's pending requests in the lent list.
 
+use calls::Request;
 use model::lent::{pending_requests, records};
-use model::request_words::RequestWords;
-use model::tables::tables_of;
+use model::tables::{tables_of, REQUESTS};
 
 use crate::support::*;
 
-fn record(serial: u32, player: u32, abandoned: u32) -> RequestWords {
-    RequestWords {
+fn record(serial: u32, player: u8, abandoned: u8) -> Request {
+    Request {
         serial,
         player,
         abandoned,
-        ..RequestWords::default()
+        ..Request::default()
     }
 }
 
@@ -19,13 +19,13 @@ fn record(serial: u32, player: u32, abandoned: u32) -> RequestWords {
 #[test]
 fn refusals() {
     for length in [0, 1, 63, 65] {
-        let list = vec![RequestWords::default(); length];
+        let list = vec![Request::default(); length];
         assert_eq!(pending_requests(&list, 8), refused(21));
         assert_eq!(pending_requests(&list, 0), refused(21));
     }
-    let list = vec![RequestWords::default(); 64];
+    let list = vec![Request::default(); 64];
     assert_eq!(pending_requests(&list, 8), refused(28));
-    assert_eq!(pending_requests(&list, u32::MAX), refused(28));
+    assert_eq!(pending_requests(&list, u8::MAX), refused(28));
     assert_eq!(pending_requests(&list, 7), reply(0, 0, 0));
 }
 
@@ -44,6 +44,20 @@ fn counts() {
     assert_eq!(pending_requests(&[record(1, 7, 0); 64], 7), reply(0, 64, 0));
 }
 
+/// A mark stands where its number is not 0; of the three only that of a request given up is looked at.
+#[test]
+fn marks_of_any_number() {
+    for mark in 0..=u8::MAX {
+        let mut list = vec![record(1, 2, mark); 64];
+        list[0].abandoned = 0;
+        for request in &mut list {
+            (request.overlapped, request.delivered) = (mark, !mark);
+        }
+        let count = if mark == 0 { 64 } else { 1 };
+        assert_eq!(pending_requests(&list, 2), reply(0, count, 0), "{mark}");
+    }
+}
+
 /// "*Waiting* means in flight and not given up": delivered requests count.
 #[test]
 fn of_a_table() {
@@ -59,5 +73,9 @@ fn of_a_table() {
     let list = records(&players).expect("the table has its length");
     assert_eq!(pending_requests(&list, 0), reply(0, 2, 0));
     assert_eq!(pending_requests(&list, 1), reply(0, 1, 0));
+    assert_eq!((list[0].delivered, list[3].abandoned), (1, 1));
     assert_eq!(records(&players[1..]), None);
+    let mut players = players;
+    players[REQUESTS + 9] = 256;
+    assert_eq!(records(&players), None);
 }

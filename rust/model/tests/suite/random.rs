@@ -3,10 +3,12 @@
 
 use std::collections::BTreeSet;
 
+use calls::KINDS;
 use model::claim::check;
 use model::faults::NoFault;
 use model::generate::{step_for, Profile};
 use model::prng::Prng;
+use model::reply::REPLIES;
 use model::rules;
 use model::state::State;
 use model::states::any_state;
@@ -26,7 +28,7 @@ fn demand_3() {
 fn demand_3_after_every_step() {
     let mut rng = Prng::new(32);
     for _ in 0..20 * scale() {
-        let mut profile = Profile::draw(&mut rng);
+        let mut profile = Profile::draw(&mut rng, KINDS);
         let mut state = State::fresh();
         let mut history = Vec::new();
         for _ in 0..150 {
@@ -44,7 +46,7 @@ fn demand_3_after_every_step() {
 fn tables_stay_valid() {
     let mut rng = Prng::new(33);
     for _ in 0..30 * scale() {
-        let mut profile = Profile::draw(&mut rng);
+        let mut profile = Profile::draw(&mut rng, KINDS);
         let mut state = State::fresh();
         let mut before = tables::fresh_tables();
         for _ in 0..100 {
@@ -68,7 +70,7 @@ fn steps_from_any_state() {
     for _ in 0..1_500 * scale() {
         let mut state = any_state(&mut rng);
         let before = tables::tables_of(&state);
-        let step = step_for(&mut rng, &state);
+        let step = step_for(&mut rng, &state, KINDS);
         let reply = rules::step(&mut state, step);
         let after = tables::tables_of(&state);
         assert_eq!(tables::decode(&after.0, &after.1).as_ref(), Ok(&state));
@@ -79,26 +81,10 @@ fn steps_from_any_state() {
     }
 }
 
-/// "Step 1 to 5 give 1 unless read from memory; 7 gives 3 to 8; the rest 0", and the refusals of
-/// each kind: all of them occur, and no other.
+/// All replies that a kind can give occur, and no other.
 #[test]
 fn replies_of_each_kind() {
-    let expected: [&[u32]; 13] = [
-        &[1, 28, 34],
-        &[1, 28, 34],
-        &[1, 28, 29, 31, 33, 34],
-        &[1, 2, 28, 33, 34],
-        &[1, 28, 29, 30, 33, 34],
-        &[0, 32],
-        &[3, 4, 5, 6, 7, 8, 32],
-        &[0, 32],
-        &[0, 32],
-        &[0, 28, 35],
-        &[0, 28, 35],
-        &[0],
-        &[0, 28],
-    ];
-    let mut seen: [BTreeSet<u32>; 13] = Default::default();
+    let mut seen = REPLIES.map(|_| BTreeSet::new());
     let mut rng = Prng::new(35);
     for _ in 0..1_000 * scale() {
         let (history, _) = random_list(&mut rng, &NoFault);
@@ -106,13 +92,30 @@ fn replies_of_each_kind() {
             seen[usize::from(event.step.kind()) - 1].insert(event.reply.code);
         }
     }
-    for _ in 0..3_000 * scale() {
+    for _ in 0..20_000 * scale() {
         let mut state = any_state(&mut rng);
-        let step = step_for(&mut rng, &state);
+        let step = step_for(&mut rng, &state, KINDS);
         let reply = rules::step(&mut state, step);
         seen[usize::from(step.kind()) - 1].insert(reply.code);
     }
-    for (kind, (seen, expected)) in (1..).zip(seen.iter().zip(expected)) {
+    for (kind, (seen, expected)) in (1..).zip(seen.iter().zip(REPLIES)) {
         assert!(seen.iter().eq(expected), "kind {kind}: {seen:?}");
     }
+}
+
+/// Steps can be drawn of the first kinds alone, and each of these is drawn.
+#[test]
+fn the_first_kinds_alone() {
+    let mut rng = Prng::new(36);
+    let mut seen = BTreeSet::new();
+    for _ in 0..100 * scale() {
+        let mut profile = Profile::draw(&mut rng, 9);
+        let mut state = State::fresh();
+        for _ in 0..100 {
+            let step = profile.next_step(&mut rng, &state);
+            rules::step(&mut state, step);
+            seen.insert(step.kind());
+        }
+    }
+    assert!(seen.into_iter().eq(1..=9));
 }

@@ -1,15 +1,21 @@
 //! A run: budgets and lists of every small size, marks, lengths, bad records, refused runs.
 
+use calls::Report;
 use model::broken::damage;
 use model::codec::session;
+use model::faults::NoFault;
 use model::prng::Prng;
-use model::run::{run, step_tables, Report};
+use model::run::{run, step_tables};
 use model::tables::{check, fresh_tables, PLAYERS_WORDS, STORE_WORDS};
 
 use crate::support::*;
 
-fn report(why: u32, taken: u32, place: u32) -> Report {
-    Report { why, taken, place }
+fn report(why: u32, records: u32, place: u32) -> Report {
+    Report {
+        why,
+        records,
+        place,
+    }
 }
 
 /// Three records of 3 bytes each: split 5 (0), split 5 (35), split 0 (28).
@@ -119,16 +125,16 @@ fn longest_session() {
 #[test]
 fn steps_on_tables() {
     let (mut store, mut players) = fresh_tables();
-    let given = step_tables(&mut store, &mut players[1..], assign(8, 0, 1));
+    let given = step_tables(&mut store, &mut players[1..], assign(8, 0, 1), &NoFault);
     assert_eq!(given, refused(21));
     players[OWNER] = 9;
-    let given = step_tables(&mut store, &mut players, assign(8, 0, 1));
+    let given = step_tables(&mut store, &mut players, assign(8, 0, 1), &NoFault);
     assert_eq!(given, refused(22));
     players[OWNER] = 8;
-    let given = step_tables(&mut store, &mut players, assign(8, 0, 1));
+    let given = step_tables(&mut store, &mut players, assign(8, 0, 1), &NoFault);
     assert_eq!(given, refused(28));
     assert_eq!((store.clone(), players.clone()), fresh_tables());
-    let given = step_tables(&mut store, &mut players, assign(7, 0, 256));
+    let given = step_tables(&mut store, &mut players, assign(7, 0, 256), &NoFault);
     assert_eq!(given, reply(1, 1, 0));
     assert_eq!(players[..2], [1, 7]);
     assert_eq!(players[1..257], [7; 256]);
@@ -150,7 +156,7 @@ fn runs_and_steps() {
     assert_eq!(given, report(0, steps.len() as u32, end));
     let (mut one_store, mut one_players) = fresh_tables();
     for (step, words) in steps.into_iter().zip(list.chunks(3)) {
-        let given = step_tables(&mut one_store, &mut one_players, step);
+        let given = step_tables(&mut one_store, &mut one_players, step, &NoFault);
         assert_eq!([given.code, given.a, given.b], words);
     }
     assert_eq!((store, players), (one_store, one_players));
@@ -175,7 +181,7 @@ fn damaged_sessions() {
             9 | 24..=27 => assert!((given.place as usize) < bytes.len()),
             why => panic!("{why}"),
         }
-        let filled = 3 * given.taken as usize;
+        let filled = 3 * given.records as usize;
         assert_eq!(list[filled..], vec![77; 60 - filled]);
     }
 }

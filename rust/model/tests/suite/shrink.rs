@@ -1,9 +1,9 @@
 //! The shrinker.
 
+use calls::Step;
 use model::codec::session_text;
 use model::faults::Fault;
 use model::shrink::{shrink, Outcome};
-use model::step::Step;
 use model::trial::play;
 
 use crate::support::*;

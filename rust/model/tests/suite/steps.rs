@@ -1,7 +1,8 @@
 //! The thirteen steps, sentence by sentence, with the readings of document 01.
 
+use model::numbers::{MAX_SERIAL, NOBODY};
 use model::rules;
-use model::state::{Cached, Operation, State, MAX_SERIAL, NOBODY};
+use model::state::{Cached, Operation, State};
 use model::store::{Versioned, WriteOutcome};
 
 use crate::support::*;

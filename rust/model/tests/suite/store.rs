@@ -1,9 +1,8 @@
 //! The store used alone.
 
+use calls::{Range, Reply};
 use model::broken::break_rule;
 use model::prng::Prng;
-use model::reply::Reply;
-use model::step::Range;
 use model::store_calls::*;
 use model::table_rules::TableRule;
 use model::tables::STORE_WORDS;

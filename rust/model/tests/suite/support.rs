@@ -1,9 +1,8 @@
 //! Short names for steps and replies, and what several tests share.
 
+use calls::{Range, Reply, Step};
 use model::faults::NoFault;
-use model::reply::Reply;
 use model::state::State;
-use model::step::{Range, Step};
 use model::trial::play;
 
 /// How many times the default number of random cases is run: `FAMDRIZE_SCALE`, 1 if not set.

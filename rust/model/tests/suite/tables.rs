@@ -1,8 +1,9 @@
 //! The two tables: fresh ones, what is allowed, and each rule broken alone.
 
 use model::broken::{break_rule, rich_state};
+use model::numbers::MAX_SERIAL;
 use model::prng::Prng;
-use model::state::{Cached, State, MAX_SERIAL};
+use model::state::{Cached, State};
 use model::states::any_state;
 use model::table_rules::{TableError, TableRule};
 use model::tables::*;

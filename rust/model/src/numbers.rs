@@ -1,0 +1,45 @@
+//! Document 01's numbers, and the entries of a range.
+
+use calls::Range;
+
+/// "There are 256 entries, 0 to 255."
+pub const ENTRIES: usize = 256;
+/// "eight players (0 to 7)"
+pub const PLAYERS: usize = 8;
+/// "its owner (0 to 7, or 8 for nobody)"
+pub const NOBODY: u8 = 8;
+/// "up to 64 rows in flight"
+pub const MAX_REQUESTS: usize = 64;
+/// "One count of serials, 0 when fresh, last usable 4,000,000"
+pub const MAX_SERIAL: u32 = 4_000_000;
+
+/// "Ranges run from low up to, not including, high (1 to 256)." The fields have the widths of a
+/// record, so a range that is read may break that rule; [`Entries::is_valid`] tells.
+pub trait Entries {
+    /// Not "low not below high, high above 256".
+    fn is_valid(&self) -> bool;
+    /// The entries, as indices.
+    fn entries(&self) -> std::ops::Range<usize>;
+    /// Whether this entry is among them.
+    fn contains(&self, entry: u8) -> bool;
+    /// Whether another range shares an entry.
+    fn shares(&self, other: Range) -> bool;
+}
+
+impl Entries for Range {
+    fn is_valid(&self) -> bool {
+        u16::from(self.low) < self.high && usize::from(self.high) <= ENTRIES
+    }
+
+    fn entries(&self) -> std::ops::Range<usize> {
+        usize::from(self.low)..usize::from(self.high).min(ENTRIES)
+    }
+
+    fn contains(&self, entry: u8) -> bool {
+        self.low <= entry && u16::from(entry) < self.high
+    }
+
+    fn shares(&self, other: Range) -> bool {
+        u16::from(self.low) < other.high && u16::from(other.low) < self.high
+    }
+}
