@@ -1,7 +1,12 @@
 // Text on standard output, in document 01's words.
 use players::Step;
-use store::Range;
+use session::kinds;
+use session::kinds::fields_of;
+use session::records;
 use store::Reply;
+
+// The length of the longest record.
+const RECORD: usize = 14;
 
 // Some bytes.
 pub(crate) fn say(text: &[u8]) {
@@ -14,81 +19,51 @@ fn number(n: u32) {
     io::print_decimal(1, n as u64);
 }
 
-// The two ends of a range.
-fn ends(range: Range) {
-    number(range.low as u32);
-    number(range.high as u32);
-}
-
-// A player, and an entry.
-fn player_entry(player: u8, entry: u8) {
-    number(player as u32);
-    number(entry as u32);
-}
-
-// A step: its kind, and that kind's fields.
-pub(crate) fn step(next: Step) {
-    match next {
-        Step::Assign { player, range } => {
-            say(b"assign");
-            number(player as u32);
-            ends(range);
-        }
-        Step::Release { range } => {
-            say(b"release");
-            ends(range);
-        }
-        Step::RequestGuard { player, range } => {
-            say(b"ask");
-            number(player as u32);
-            ends(range);
-        }
-        Step::Read { player, entry } => {
-            say(b"read");
-            player_entry(player, entry);
-        }
-        Step::Write {
-            player,
-            entry,
-            value,
-        } => {
-            say(b"write");
-            player_entry(player, entry);
-            number(value);
-        }
-        Step::Deliver { serial } => {
-            say(b"arrive");
-            number(serial);
-        }
-        Step::Respond { serial } => {
-            say(b"answer");
-            number(serial);
-        }
-        Step::Abandon { serial } => {
-            say(b"give up");
-            number(serial);
-        }
-        Step::Lose { serial } => {
-            say(b"lose");
-            number(serial);
-        }
-        Step::Split { entry } => {
-            say(b"split");
-            number(entry as u32);
-        }
-        Step::Merge { entry } => {
-            say(b"merge");
-            number(entry as u32);
-        }
-        Step::RestartTablet { entry } => {
-            say(b"restart tablet");
-            number(entry as u32);
-        }
-        Step::RestartPlayer { player } => {
-            say(b"restart player");
-            number(player as u32);
-        }
+// The word for a kind; one that no case here takes has its number.
+fn kind(kind: u8) {
+    match kind {
+        kinds::ASSIGN => say(b"assign"),
+        kinds::RELEASE => say(b"release"),
+        kinds::REQUEST_GUARD => say(b"ask"),
+        kinds::READ => say(b"read"),
+        kinds::WRITE => say(b"write"),
+        kinds::DELIVER => say(b"arrive"),
+        kinds::RESPOND => say(b"answer"),
+        kinds::ABANDON => say(b"give up"),
+        kinds::LOSE => say(b"lose"),
+        kinds::SPLIT => say(b"split"),
+        kinds::MERGE => say(b"merge"),
+        kinds::RESTART_TABLET => say(b"restart tablet"),
+        kinds::RESTART_PLAYER => say(b"restart player"),
+        _ => other(kind),
     }
+}
+
+// A kind by its number.
+fn other(kind: u8) {
+    say(b"kind");
+    number(kind as u32);
+}
+
+// A field, where the lowest bit of the map stands.
+fn field(map: u8, n: u32) {
+    if map % 2 == 1 {
+        number(n);
+    }
+}
+
+// A step: its kind, and that kind's fields, those whose bit stands in the map of its record.
+pub(crate) fn step(next: Step) {
+    let mut record = [0u8; RECORD];
+    records::encode(next, &mut record);
+    let map = record[0];
+    let f = fields_of(next);
+    kind(f.kind);
+    field(map / 2, f.player as u32);
+    field(map / 4, f.entry as u32);
+    field(map / 8, f.high as u32);
+    field(map / 16, f.value);
+    field(map / 32, f.serial);
 }
 
 // A reply: its code and two numbers.

@@ -6,7 +6,8 @@ use Prim.Native.Nat.{ℕ, _<_}
 use Rattle.players.specs.declared.Step.{Step}
 use Rattle.players.specs.Replies.{refusal}
 use Rattle.players.specs.Calls.{left}
-use Rattle.players.specs.Played.{Fits, taken}
+use Rattle.players.specs.Kinds.{Fits}
+use Rattle.players.specs.Played.{taken}
 use Rattle.session.specs.Fields.{six}
 use Rattle.exports.specs.declared.Stated.{Stated}
 use Rattle.exports.specs.declared.Stated.the-variants.{Taken, Refused}

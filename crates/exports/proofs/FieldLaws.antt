@@ -1,20 +1,22 @@
 -- A step and its six numbers determine each other.
 -- Assumes nothing.
-use mathlib.Core.Path.{_≡_, _∙_, refl, ap}
+use mathlib.Core.Path.{_≡_, _∙_, refl, sym, ap}
 use mathlib.Core.Bool.{Bool, true, false, cond, _&&_, _||_}
 use mathlib.Core.List.{List, [], _∷_}
 use Prim.Native.Nat.{ℕ, zero, suc, _/_, _≤_, _<_}
 use native.Mathlib.Omega.{arith}
 use lib.ListN.{length, getD, drop}
 use lib.Dec.{ltb, eqb}
-use borrow.Author.Tests.{lt-ltb, le-ltb, eq-eqb, ltb-false, eqb-true}
+use borrow.Author.Tests.{le-ltb, eq-eqb, ltb-false, eqb-true}
 use Rattle.players.specs.declared.Step.{Step}
-use Rattle.players.specs.declared.Step.the-variants.{Assign, Release, RequestGuard, Read, Write, Deliver, Respond, Abandon, Lose, Split, Merge, RestartTablet, RestartPlayer}
-use Rattle.players.specs.Played.{Fits}
-use Rattle.session.specs.Layout.{widths, stands, last-kind, map-of}
-use Rattle.session.specs.Records.{unknown-kind, wrong-fields, kind-and-fields, kind, step-of}
-use Rattle.session.specs.Fields.{standing, spread, six, numbers-of}
-use Rattle.session.proofs.StepLaws.{known, none, _&_, each-kind}
+use Rattle.players.specs.Kinds.{stands, last-kind, map-of, kind-and-fields, kind, step-of, spread, numbers-of, Fits}
+use Rattle.players.proofs.StepCases.{known}
+use Rattle.players.proofs.KindLaws.{kind-map, fields-made, kind-made, fits-by}
+use Rattle.session.specs.Layout.{record-length}
+use Rattle.session.specs.declared.Decoded.the-variants.{Record, Refused as Unread}
+use Rattle.session.specs.Records.{unknown-kind, wrong-fields, of-numbers}
+use Rattle.session.specs.Fields.{standing, six}
+use Rattle.session.proofs.FieldLaws.{count-standing, first-standing}
 use Rattle.session.proofs.EncodeLaws.{first-number, standing-spread}
 use Rattle.exports.specs.declared.Stated.{Stated}
 use Rattle.exports.specs.declared.Stated.the-variants.{Taken, Refused}
@@ -72,52 +74,58 @@ pub record Stands (k p e h v s : ℕ) : Type 0 where
   pub kinds : kind (step-of k (standing (map-of k) (six k p e h v s))) ≡ k
   pub fields : kind-and-fields (step-of k (standing (map-of k) (six k p e h v s))) ≡ standing (map-of k) (six k p e h v s)
 
-module _ (p e h v s : ℕ) where
-  stands-as : (k : ℕ) → kind (step-of k (standing (map-of k) (six k p e h v s))) ≡ k
-      → kind-and-fields (step-of k (standing (map-of k) (six k p e h v s))) ≡ standing (map-of k) (six k p e h v s) → Stands k p e h v s
-  stands-as k f g = record { kinds = f; fields = g }
+module _ (k p e h v s : ℕ) (from : 1 ≤ k) (to : k ≤ last-kind) where
+  abbrev vs : List ℕ
+  vs = standing (map-of k) (six k p e h v s)
 
-  pub kind-stands : (k : ℕ) → 1 ≤ k → k ≤ last-kind → Stands k p e h v s
-  unfolding standing map-of step-of
+  first : getD vs 0 0 ≡ k
+  first = first-standing (map-of k) k (p ∷ e ∷ h ∷ v ∷ s ∷ []) (kind-map k from to .odd)
+
+  pub kind-stands : Stands k p e h v s
   kind-stands =
-      each-kind (λ (k : ℕ). Stands k p e h v s)
-      (stands-as 1 refl refl
-      & stands-as 2 refl refl
-      & stands-as 3 refl refl
-      & stands-as 4 refl refl
-      & stands-as 5 refl refl
-      & stands-as 6 refl refl
-      & stands-as 7 refl refl
-      & stands-as 8 refl refl
-      & stands-as 9 refl refl
-      & stands-as 10 refl refl
-      & stands-as 11 refl refl
-      & stands-as 12 refl refl
-      & stands-as 13 refl refl
-      & none)
+      let n = count-standing (map-of k) (six k p e h v s) in
+      record { kinds = kind-made k from to vs n first; fields = fields-made k from to vs n first }
 
 -- ---- the step of six numbers
 
 module _ (k p e h v s : ℕ) where
-  pub kind-low : k < 1 → Refused unknown-kind ≡ stated (six k p e h v s)
+  abbrev six-numbers : List ℕ
+  six-numbers = six k p e h v s
+
+  -- a kind that is not in force, and one that is
+  data Kind : Type 0 where
+    none : (n : ℕ) → of-numbers six-numbers ≡ Unread n → stated six-numbers ≡ Refused n → Kind
+    one : 1 ≤ k → k ≤ last-kind → of-numbers six-numbers ≡ Record (step-of k (standing (map-of k) six-numbers)) (record-length (map-of k)) → Kind
+
+  kind-of : Kind
   unfolding stated
-  kind-low f = rw (lt-ltb k 1 f)
+  kind-of = by (ltb k 1) (ltb last-kind k) refl refl
+    where
+      by : (a b : Bool) → ltb k 1 ≡ a → ltb last-kind k ≡ b → Kind
+      by true b f g = none unknown-kind (rw f) (rw f)
+      by false true f g = none unknown-kind (rw (f, g)) (rw (f, g))
+      by false false f g = one (ltb-false k 1 f) (ltb-false last-kind k g) (rw (f, g))
 
-  module _ (from : 1 ≤ k) where
-    pub kind-high : last-kind < k → Refused unknown-kind ≡ stated (six k p e h v s)
-    unfolding stated
-    kind-high f = rw (le-ltb k 1 from, lt-ltb last-kind k f)
+  -- what is read of them: a refusal
+  pub stated-refused : (n : ℕ) → of-numbers six-numbers ≡ Unread n → Refused n ≡ stated six-numbers
+  stated-refused n is = by kind-of
+    where
+      by : Kind → Refused n ≡ stated six-numbers
+      by (none m q f) = let z : n ≡ m = cc in rw z (sym f)
+      by (one from to q) = absurd (let z : _≡_ {A = ℕ} 0 1 = cc in omega arith)
 
-    module _ (to : k ≤ last-kind) (x : Step) (is : x ≡ step-of k (standing (map-of k) (six k p e h v s))) where
-      -- the numbers of the kind's step, which are compared
-      zero-same : others-zero (map-of k) (six k p e h v s) ≡ agree (six k p e h v s) (numbers-of x)
-      zero-same =
-          let a = kind-stands p e h v s k from to in
-          zero-agree (map-of k) (six k p e h v s) ∙ rw (is, a .kinds, a .fields)
-
-      pub stated-by : (b : Bool) → b ≡ agree (six k p e h v s) (numbers-of x) → stated (six k p e h v s) ≡ cond b (Taken x) (Refused wrong-fields)
-      unfolding stated
-      stated-by b f = rw (le-ltb k 1 from, le-ltb last-kind k to, zero-same, f, is)
+  -- or a step, whose numbers are compared with these
+  pub stated-by : (x : Step) (n : ℕ) → of-numbers six-numbers ≡ Record x n → (b : Bool) → b ≡ agree six-numbers (numbers-of x) → stated six-numbers ≡ cond b (Taken x) (Refused wrong-fields)
+  unfolding stated
+  stated-by x n is b f = by kind-of
+    where
+      by : Kind → stated six-numbers ≡ cond b (Taken x) (Refused wrong-fields)
+      by (none m q g) = absurd (let z : _≡_ {A = ℕ} 0 1 = cc in omega arith)
+      by (one from to q) =
+          let a = kind-stands k p e h v s from to in
+          let made : step-of k (standing (map-of k) six-numbers) ≡ x = cc in
+          let same : others-zero (map-of k) six-numbers ≡ agree six-numbers (numbers-of x) = zero-agree (map-of k) six-numbers ∙ rw (← made, a .kinds, a .fields) in
+          rw (le-ltb k 1 from, le-ltb last-kind k to, same, f, made)
 
 -- ---- both directions
 
@@ -127,7 +135,7 @@ unfolding stated
 numbers-back x =
     let k = known x in
     let m = map-of (kind x) in
-    rw (first-number x, le-ltb (kind x) 1 (k .from), le-ltb last-kind (kind x) (k .to), spread-zero (length widths) m (kind-and-fields x), standing-spread widths m (kind-and-fields x) (k .fields), k .same)
+    rw (first-number x, le-ltb (kind x) 1 (k .from), le-ltb last-kind (kind x) (k .to), spread-zero 6 m (kind-and-fields x), standing-spread 6 m (kind-and-fields x) (k .fields), k .same)
 
 -- and no others are
 pub only-numbers : (k p e h v s : ℕ) (x : Step) → stated (six k p e h v s) ≡ Taken x → numbers-of x ≡ six k p e h v s
@@ -137,7 +145,7 @@ only-numbers k p e h v s x is = by-kind (ltb k 1) (ltb last-kind k) refl refl is
     by-zero : 1 ≤ k → k ≤ last-kind → (z : Bool) → others-zero (map-of k) (six k p e h v s) ≡ z
         → cond z (Taken (step-of k (standing (map-of k) (six k p e h v s)))) (Refused wrong-fields) ≡ Taken x → numbers-of x ≡ six k p e h v s
     by-zero from to true f g =
-        let a = kind-stands p e h v s k from to in
+        let a = kind-stands k p e h v s from to in
         let same : step-of k (standing (map-of k) (six k p e h v s)) ≡ x = cc in
         rw (← same, a .kinds, a .fields) (zero-spread (map-of k) (six k p e h v s) f)
     by-zero from to false f g = absurd (let z : _≡_ {A = ℕ} 0 1 = cc in omega arith)
@@ -150,23 +158,6 @@ only-numbers k p e h v s x is = by-kind (ltb k 1) (ltb last-kind k) refl refl is
     by-kind false false f g taken = by-zero (ltb-false k 1 f) (ltb-false last-kind k g) (others-zero (map-of k) (six k p e h v s)) refl taken
 
 -- ---- the entry of a step is the third of its numbers, so that it fits where that does
-
-fits-by : (x : Step) → getD (numbers-of x) 2 0 < 256 → Fits x
-unfolding spread map-of
-fits-by (Assign p r) h = tt
-fits-by (Release r) h = tt
-fits-by (RequestGuard p r) h = tt
-fits-by (Read p e) h = h
-fits-by (Write p e v) h = h
-fits-by (Deliver n) h = tt
-fits-by (Respond n) h = tt
-fits-by (Abandon n) h = tt
-fits-by (Lose n) h = tt
-fits-by (Split e) h = h
-fits-by (Merge e) h = h
-fits-by (RestartTablet e) h = h
-fits-by (RestartPlayer p) h = tt
-
 pub stated-fits : (k p e h v s : ℕ) (x : Step) → e < 256 → stated (six k p e h v s) ≡ Taken x → Fits x
 stated-fits k p e h v s x b is = fits-by x (rw (only-numbers k p e h v s x is) b)
 

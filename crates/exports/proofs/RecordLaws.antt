@@ -9,9 +9,10 @@ use lib.ListN.{length}
 use Rattle.players.specs.declared.Step.{Step}
 use Rattle.session.specs.declared.Decoded.{Decoded}
 use Rattle.session.specs.declared.Decoded.the-variants.{Record, Refused}
-use Rattle.session.specs.Layout.{widths, stands, fields-length, record-length}
+use Rattle.players.specs.Kinds.{stands, numbers-of}
+use Rattle.session.specs.Layout.{widths, fields-length, record-length}
 use Rattle.session.specs.Records.{map-at, decode, encode}
-use Rattle.session.specs.Fields.{six, numbers-of}
+use Rattle.session.specs.Fields.{six}
 use Rattle.session.proofs.Tested.{Outcome, refuses, accepts, outcome}
 use Rattle.session.proofs.RoundTrip.{read-back}
 use Rattle.exports.specs.declared.Stated.the-variants.{Taken}

@@ -10,7 +10,7 @@ use Rattle.players.specs.Played.{taken}
 use Rattle.session.specs.declared.Decoded.{Decoded}
 use Rattle.session.specs.declared.Decoded.the-variants.{Record, Refused}
 use Rattle.session.specs.Records.{encode}
-use Rattle.session.specs.Fields.{numbers-of}
+use Rattle.players.specs.Kinds.{numbers-of}
 use Rattle.session.specs.Written.{Wrote, wrote, written}
 use Rattle.session.specs.declared.Report.{Report}
 use Rattle.session.specs.Runs.{report}

@@ -4,9 +4,10 @@ use mathlib.Core.Path.{_≡_, refl}
 use mathlib.Core.List.{[], _∷_, map}
 use Rattle.players.specs.declared.Step.the-variants.{Assign, Release, Write, Deliver, RestartPlayer}
 use Rattle.players.specs.Cases.{range}
-use Rattle.session.specs.Layout.{record-length, fields-length, fields, map-of}
-use Rattle.session.specs.Records.{unknown-kind, wrong-fields, step-of, tested, decode}
-use Rattle.session.specs.Fields.{standing, spread, six}
+use Rattle.players.specs.Kinds.{map-of, step-of, spread}
+use Rattle.session.specs.Layout.{record-length, fields-length, fields}
+use Rattle.session.specs.Records.{unknown-kind, wrong-fields, tested, decode}
+use Rattle.session.specs.Fields.{standing, six}
 use Rattle.exports.specs.declared.Stated.the-variants.{Taken, Refused}
 use Rattle.exports.specs.Fields.{others-zero, stated}
 use Rattle.exports.specs.Calls.{decoded}

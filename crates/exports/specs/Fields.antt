@@ -6,8 +6,8 @@ use Prim.Native.Nat.{ℕ, _/_}
 use lib.Dec.{ltb, eqb}
 use lib.ListN.{getD, drop}
 use Rattle.players.specs.declared.Step.{Step}
-use Rattle.session.specs.Layout.{stands, last-kind, map-of}
-use Rattle.session.specs.Records.{unknown-kind, wrong-fields, step-of}
+use Rattle.players.specs.Kinds.{stands, last-kind, map-of, step-of}
+use Rattle.session.specs.Records.{unknown-kind, wrong-fields}
 use Rattle.session.specs.Fields.{standing}
 use Rattle.exports.specs.declared.Stated.{Stated}
 use Rattle.exports.specs.declared.Stated.the-variants.{Taken, Refused}

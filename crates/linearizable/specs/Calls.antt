@@ -8,7 +8,8 @@ use Prim.Native.Nat.{ℕ, _<_}
 use Rattle.store.specs.declared.Reply.{Reply}
 use Rattle.players.specs.declared.Step.{Step}
 use Rattle.players.specs.Calls.{Done, whole}
-use Rattle.players.specs.Played.{Fits, Tables, tables, taken}
+use Rattle.players.specs.Kinds.{Fits}
+use Rattle.players.specs.Played.{Tables, tables, taken}
 use Rattle.session.specs.Records.{Bytes}
 use Rattle.session.specs.Runs.{steps, whole-places}
 use Rattle.steps.specs.RunCalls.{ran, replies-from}

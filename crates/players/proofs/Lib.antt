@@ -3,8 +3,10 @@ pub mod Regions
 pub mod Tables
 pub mod FreshLaws
 pub mod CheckLaws
-pub mod StepCases
+pub mod StepFacts
 pub mod Kept
-pub mod Refusals
+pub mod StepCases
+pub mod KindLaws
 pub mod CallLaws
+pub mod Refusals
 pub mod PlayedLaws

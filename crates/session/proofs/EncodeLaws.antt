@@ -9,12 +9,13 @@ use native.Mathlib.Nat.{pow-suc}
 use lib.ListN.{length, take, drop, getD}
 use borrow.Author.Tests.{eq-eqb}
 use Rattle.players.specs.declared.Step.{Step}
-use Rattle.session.specs.Layout.{widths, stands, bytes, field-bytes, last-kind, map-of}
-use Rattle.session.specs.Records.{kind-and-fields, kind, encode}
-use Rattle.session.specs.Fields.{standing, spread, six, numbers-of}
+use Rattle.players.specs.Kinds.{stands, last-kind, map-of, kind-and-fields, kind, spread, numbers-of}
+use Rattle.players.proofs.StepCases.{bits, known}
+use Rattle.players.proofs.KindLaws.{kind-map}
+use Rattle.session.specs.Layout.{widths, bytes, field-bytes}
+use Rattle.session.specs.Records.{record-of, encode}
+use Rattle.session.specs.Fields.{standing, six}
 use Rattle.session.specs.Text.{Puts, standing-bytes, first-bytes}
-use Rattle.session.proofs.FieldLaws.{count}
-use Rattle.session.proofs.StepLaws.{known, kind-map}
 
 -- ---- a number, byte by byte
 
@@ -86,15 +87,15 @@ six-bytes m k p e h v s =
 -- ---- a step
 
 -- the numbers of the standing bits, spread, are those again
-pub standing-spread : (ws : List ℕ) (m : ℕ) (vs : List ℕ) → length vs ≡ count ws m → standing m (spread (length ws) m vs) ≡ vs
+pub standing-spread : (n m : ℕ) (vs : List ℕ) → length vs ≡ bits n m → standing m (spread n m vs) ≡ vs
 unfolding standing spread
-standing-spread [] m [] h = refl
-standing-spread [] m (v ∷ vs) h = absurd (omega arith)
-standing-spread (w ∷ ws) m vs h = by-bit (stands m) refl vs (standing-spread ws (m / 2)) h
+standing-spread zero m [] h = refl
+standing-spread zero m (v ∷ vs) h = absurd (omega arith)
+standing-spread (suc n) m vs h = by-bit (stands m) refl vs (standing-spread n (m / 2)) h
   where
-    by-bit : (b : Bool) → stands m ≡ b → (vs : List ℕ) → ((us : List ℕ) → length us ≡ count ws (m / 2) → standing (m / 2) (spread (length ws) (m / 2) us) ≡ us)
-        → length vs ≡ cond b (suc (count ws (m / 2))) (count ws (m / 2))
-        → standing m (cond b (getD vs 0 0 ∷ spread (length ws) (m / 2) (drop 1 vs)) (0 ∷ spread (length ws) (m / 2) vs)) ≡ vs
+    by-bit : (b : Bool) → stands m ≡ b → (vs : List ℕ) → ((us : List ℕ) → length us ≡ bits n (m / 2) → standing (m / 2) (spread n (m / 2) us) ≡ us)
+        → length vs ≡ cond b (suc (bits n (m / 2))) (bits n (m / 2))
+        → standing m (cond b (getD vs 0 0 ∷ spread n (m / 2) (drop 1 vs)) (0 ∷ spread n (m / 2) vs)) ≡ vs
     by-bit false e vs back h = rw e (back vs h)
     by-bit true e [] back h = absurd (omega arith)
     by-bit true e (v ∷ vs) back h = rw e (ap (λ (l : List ℕ). v ∷ l) (back vs (omega arith)))
@@ -110,8 +111,12 @@ first-number x =
 pub first-known : (x : Step) (vs : List ℕ) → vs ≡ numbers-of x → getD vs 0 0 ≤ last-kind
 first-known x vs e = rw (e, first-number x) (known x .to)
 
--- the map of that kind, and its fields among them, are the record
-pub encoded : (x : Step) (vs : List ℕ) (m : ℕ) → vs ≡ numbers-of x → m ≡ map-of (getD vs 0 0) → m ∷ field-bytes widths m (standing m vs) ≡ encode x
-encoded x vs m e q =
-    let k : m ≡ map-of (kind x) = q ∙ ap (λ (l : List ℕ). map-of (getD l 0 0)) e ∙ ap map-of (first-number x) in
-    rw (k, e, standing-spread widths (map-of (kind x)) (kind-and-fields x) (known x .fields))
+-- six numbers put by the map of their kind are their record
+pub by-map : (vs : List ℕ) {m r : ℕ} {l l′ : List ℕ} → m ≡ map-of (getD vs 0 0) → Puts (m ∷ field-bytes widths m (standing m vs)) 14 0 l l′ r → Puts (record-of vs) 14 0 l l′ r
+by-map vs e p = rw (← e) p
+
+-- their record is the step's
+pub encoded : (x : Step) (vs : List ℕ) → vs ≡ numbers-of x → record-of vs ≡ encode x
+encoded x vs e =
+    let k : map-of (getD vs 0 0) ≡ map-of (kind x) = ap (λ (l : List ℕ). map-of (getD l 0 0)) e ∙ ap map-of (first-number x) in
+    rw (k, e, standing-spread 6 (map-of (kind x)) (kind-and-fields x) (known x .fields))

@@ -8,9 +8,13 @@ use native.Mathlib.Omega.{arith}
 use native.Mathlib.Nat.{not-suc-le-zero}
 use native.Mathlib.Numerals.{add-one}
 use lib.ListN.{length, getD, take, drop, length-append}
+use borrow.Author.Tests.{eq-eqb}
 use lib.Seq.{getD-append-seam, drop-cons, drop-drop, take-add, append-snoc}
-use Rattle.session.specs.Layout.{stands, fields-length, number, bytes, fields, field-bytes}
+use Rattle.players.specs.Kinds.{stands}
+use Rattle.players.proofs.StepCases.{bits}
+use Rattle.session.specs.Layout.{fields-length, number, bytes, fields, field-bytes}
 use Rattle.session.specs.Records.{Bytes}
+use Rattle.session.specs.Fields.{standing}
 
 -- ---- numbers
 
@@ -34,11 +38,6 @@ number-back (suc (suc w)) v front rest h =
 
 -- ---- fields
 
--- how many bits stand
-abbrev pub count : List ℕ → ℕ → ℕ
-count [] m = 0
-count (w ∷ ws) m = cond (stands m) (suc (count ws (m / 2))) (count ws (m / 2))
-
 -- a field has a byte
 abbrev pub Wide : List ℕ → Type 0
 Wide [] = Unit {0}
@@ -55,7 +54,7 @@ length-fields (w ∷ ws) m vs = by-bit (stands m) (length-fields ws (m / 2))
     by-bit false h = h vs
 
 -- the fields vs, one for each bit that stands, are read back from their bytes, which stand after `front`
-pub fields-back : (ws : List ℕ) (m : ℕ) (vs front rest : List ℕ) → Wide ws → length vs ≡ count ws m
+pub fields-back : (ws : List ℕ) (m : ℕ) (vs front rest : List ℕ) → Wide ws → length vs ≡ bits (length ws) m
     → fields ws m (front ++ (field-bytes ws m vs ++ rest)) (length front) ≡ vs
 unfolding fields field-bytes
 fields-back [] m [] front rest p h = refl
@@ -63,8 +62,8 @@ fields-back [] m (v ∷ vs) front rest p h = absurd (omega arith)
 fields-back (w ∷ ws) m vs front rest p h = by-bit (stands m) vs (λ us before. fields-back ws (m / 2) us before rest (p .1)) h
   where
     by-bit : (b : Bool) (vs : List ℕ)
-        → ((us before : List ℕ) → length us ≡ count ws (m / 2) → fields ws (m / 2) (before ++ (field-bytes ws (m / 2) us ++ rest)) (length before) ≡ us)
-        → length vs ≡ cond b (suc (count ws (m / 2))) (count ws (m / 2)) → (
+        → ((us before : List ℕ) → length us ≡ bits (length ws) (m / 2) → fields ws (m / 2) (before ++ (field-bytes ws (m / 2) us ++ rest)) (length before) ≡ us)
+        → length vs ≡ cond b (suc (bits (length ws) (m / 2))) (bits (length ws) (m / 2)) → (
         let s = front ++ (cond b (bytes w (getD vs 0 0) ++ field-bytes ws (m / 2) (drop 1 vs)) (field-bytes ws (m / 2) vs) ++ rest) in
         cond b (number w s (length front) ∷ fields ws (m / 2) s (length front + w)) (fields ws (m / 2) s (length front)) ≡ vs
         )
@@ -75,6 +74,32 @@ fields-back (w ∷ ws) m vs front rest p h = by-bit (stands m) vs (λ us before.
         let e : length (front ++ bytes w v) ≡ length front + w = length-append front (bytes w v) ∙ rw length-bytes in
         rw (append-assoc (bytes w v) more rest, number-back w v front (more ++ rest) (p .0), ← append-assoc front (bytes w v) (more ++ rest), ← e)
         (ap (λ (l : List ℕ). v ∷ l) (back vs (front ++ bytes w v) (omega arith)))
+
+-- there are as many fields as bits that stand
+pub count-fields : (ws : List ℕ) (m : ℕ) (s : List ℕ) (at : ℕ) → length (fields ws m s at) ≡ bits (length ws) m
+unfolding fields
+count-fields [] m s at = refl
+count-fields (w ∷ ws) m s at = by-bit (stands m) (count-fields ws (m / 2) s)
+  where
+    by-bit : (b : Bool) → ((at : ℕ) → length (fields ws (m / 2) s at) ≡ bits (length ws) (m / 2))
+        → length (cond b (number w s at ∷ fields ws (m / 2) s (at + w)) (fields ws (m / 2) s at)) ≡ cond b (suc (bits (length ws) (m / 2))) (bits (length ws) (m / 2))
+    by-bit true h = ap suc (h (at + w))
+    by-bit false h = h at
+
+pub count-standing : (m : ℕ) (vs : List ℕ) → length (standing m vs) ≡ bits (length vs) m
+unfolding standing
+count-standing m [] = refl
+count-standing m (v ∷ vs) = by-bit (stands m) (count-standing (m / 2) vs)
+  where
+    by-bit : (b : Bool) → length (standing (m / 2) vs) ≡ bits (length vs) (m / 2)
+        → length (cond b (v ∷ standing (m / 2) vs) (standing (m / 2) vs)) ≡ cond b (suc (bits (length vs) (m / 2))) (bits (length vs) (m / 2))
+    by-bit true h = ap suc h
+    by-bit false h = h
+
+-- the first of them, where its bit stands
+pub first-standing : (m v : ℕ) (vs : List ℕ) → m % 2 ≡ 1 → getD (standing m (v ∷ vs)) 0 0 ≡ v
+unfolding standing
+first-standing m v vs odd = rw (eq-eqb (m % 2) 1 odd)
 
 -- ---- what is read is what stands there
 

@@ -12,7 +12,8 @@ use Rattle.players.specs.Replies.{refusal}
 use Rattle.requests.proofs.Basics.{cond-elim}
 use Rattle.session.specs.declared.Decoded.{Decoded}
 use Rattle.session.specs.declared.Decoded.the-variants.{Record, Refused}
-use Rattle.session.specs.Layout.{stands, record-length, last-kind, map-of}
+use Rattle.players.specs.Kinds.{stands, last-kind, map-of}
+use Rattle.session.specs.Layout.{record-length}
 use Rattle.session.specs.Records.{cut-short, wrong-fields, map-at, kind-at, tested, decode}
 use Rattle.session.specs.Written.{Wrote, wrote, written}
 

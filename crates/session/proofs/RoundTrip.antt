@@ -1,23 +1,27 @@
 -- What was written reads back as the same step, and the bytes that are accepted for a step are the only ones for it.
 -- Assumes nothing.
 use mathlib.Core.Path.{_≡_, _∙_, refl, sym, ap, subst}
-use mathlib.Core.List.{List, [], _∷_, _++_}
-use Prim.Native.Nat.{ℕ, _%_, _≤_}
+use mathlib.Core.Logic.{_⊎_, inl, inr}
+use mathlib.Core.List.{List, [], _∷_, _++_, append-nil}
+use Prim.Native.Nat.{ℕ, suc, _%_, _≤_, _<_}
 use native.Mathlib.Omega.{arith}
 use lib.Dec.{lit≤}
 use lib.ListN.{length, getD, take, drop, length-append}
 use lib.Seq.{take-add, length-take-le}
-use borrow.Author.Tests.{eq-eqb}
+use borrow.Author.Tests.{eq-eqb, lt-ltb, le-ltb}
 use Rattle.requests.specs.Answers.{Numbers, gives, refused}
 use Rattle.players.specs.declared.Step.{Step}
-use Rattle.players.proofs.Kept.{Fits}
-use Rattle.session.specs.Layout.{widths, record-length, fields-length, fields, field-bytes, map-of}
+use Rattle.players.specs.Kinds.{last-kind, map-of, kind-and-fields, kind, step-of, Fits}
+use Rattle.players.proofs.StepCases.{bits, known}
+use Rattle.players.proofs.KindLaws.{kind-map}
+use Rattle.session.specs.Layout.{widths, record-length, fields-length, fields, field-bytes}
 use Rattle.session.specs.declared.Decoded.{Decoded}
 use Rattle.session.specs.declared.Decoded.the-variants.{Record, Refused}
-use Rattle.session.specs.Records.{kind-and-fields, kind, step-of, map-at, kind-at, fields-at, decode, Decodes, encode, Bytes}
+use Rattle.session.specs.Fields.{standing}
+use Rattle.session.specs.Records.{unknown-kind, map-at, kind-at, fields-at, decode, of-numbers, Decodes, record-of, encode, Bytes}
 use Rattle.session.proofs.Tested.{Accepted, accepted, Outcome, refuses, accepts, outcome}
-use Rattle.session.proofs.FieldLaws.{length-fields, fields-back, field-bytes-back}
-use Rattle.session.proofs.StepLaws.{known, kind-map, Reads, reads, fits-read}
+use Rattle.session.proofs.FieldLaws.{length-fields, count-standing, first-standing, fields-back, field-bytes-back}
+use Rattle.session.proofs.StepLaws.{Reads, reads, fits-read}
 
 -- ---- what was written
 
@@ -26,32 +30,54 @@ pub length-encode : (x : Step) → length (encode x) ≡ record-length (map-of (
 unfolding record-length
 length-encode x = let e = length-fields widths (map-of (kind x)) (kind-and-fields x) in omega arith
 
-module _ (x : Step) (rest : List ℕ) where
-  -- what is read in a step's record: its kind and its fields
-  fields-read : fields-at (encode x ++ rest) ≡ kind-and-fields x
-  fields-read =
-      let m = map-of (kind x) in
-      fields-back widths m (kind-and-fields x) (m ∷ []) rest (lit≤ tt, (lit≤ tt, (lit≤ tt, (lit≤ tt, (lit≤ tt, (lit≤ tt, tt)))))) (known x .fields)
+-- a kind, as many numbers as its map has bits, that kind first, and their record
+module _ (k : ℕ) (from : 1 ≤ k) (to : k ≤ last-kind) (vs : List ℕ) (n : length vs ≡ bits 6 (map-of k)) (h : getD vs 0 0 ≡ k) (rest : List ℕ) where
+  abbrev m : ℕ
+  m = map-of k
 
-  kind-read : kind-at (encode x ++ rest) ≡ kind x
+  abbrev bytes : List ℕ
+  bytes = m ∷ field-bytes widths m vs
+
+  fields-read : fields-at (bytes ++ rest) ≡ vs
+  fields-read = fields-back widths m vs (m ∷ []) rest (lit≤ tt, (lit≤ tt, (lit≤ tt, (lit≤ tt, (lit≤ tt, (lit≤ tt, tt)))))) n
+
+  kind-read : kind-at (bytes ++ rest) ≡ k
   unfolding fields
   kind-read =
-      let m = map-of (kind x) in
-      let h = ap (λ (l : List ℕ). getD l 0 0) fields-read in
-      rw (eq-eqb (m % 2) 1 (kind-map (kind x) (known x .from) (known x .to) .odd)) at h
+      let e = ap (λ (l : List ℕ). getD l 0 0) fields-read ∙ h in
+      rw (eq-eqb (m % 2) 1 (kind-map k from to .odd)) at e
 
-  written-accepted : Accepted (encode x ++ rest)
+  written-accepted : Accepted (bytes ++ rest)
+  unfolding record-length
   written-accepted =
-      let k = known x in
-      let m = kind-map (kind x) (k .from) (k .to) in
-      let n = length-append (encode x) rest in
-      let l = length-encode x in
-      accepted (encode x ++ rest) (λ e. omega arith) (m .low) (omega arith) (m .odd) (rw kind-read (k .from)) (rw kind-read (k .to)) (rw kind-read)
+      let good = kind-map k from to in
+      let a = length-append bytes rest in
+      let l = length-fields widths m vs in
+      accepted (bytes ++ rest) (λ e. omega arith) (good .low) (omega arith) (good .odd) (rw kind-read from) (rw kind-read to) (rw kind-read)
 
-  -- a record that was written reads back as the same step
-  pub read-back : decode (encode x ++ rest) ≡ Record x (length (encode x))
-  read-back =
-      written-accepted .takes Decoded Refused _ ∙ rw (kind-read, fields-read, known x .same, length-encode x)
+  -- it is read as the step that they make
+  pub numbers-read : decode (bytes ++ rest) ≡ Record (step-of k vs) (record-length m)
+  numbers-read = written-accepted .takes Decoded Refused _ ∙ rw (kind-read, fields-read)
+
+-- a record that was written reads back as the same step
+pub read-back : (x : Step) (rest : List ℕ) → decode (encode x ++ rest) ≡ Record x (length (encode x))
+read-back x rest =
+    let k = known x in
+    numbers-read (kind x) (k .from) (k .to) (kind-and-fields x) (k .fields) refl rest ∙ rw (k .same, length-encode x)
+
+-- six numbers: their record is read as the step of the kind with those of its fields
+module _ (k : ℕ) (us : List ℕ) (n : length us ≡ 5) where
+  pub no-kind : (k < 1) ⊎ (last-kind < k) → Refused unknown-kind ≡ of-numbers (k ∷ us)
+  no-kind (inl h) = rw (lt-ltb k 1 h)
+  no-kind (inr h) = rw (le-ltb k 1 (omega arith), lt-ltb last-kind k h)
+
+  pub record-read : 1 ≤ k → k ≤ last-kind → decode (record-of (k ∷ us)) ≡ of-numbers (k ∷ us)
+  record-read from to =
+      let m = map-of k in
+      let vs = standing m (k ∷ us) in
+      let count : length vs ≡ bits 6 m = count-standing m (k ∷ us) ∙ ap (λ (i : ℕ). bits (suc i) m) n in
+      rw (le-ltb k 1 from, le-ltb last-kind k to)
+      (ap decode (sym (append-nil (record-of (k ∷ us)))) ∙ numbers-read k from to vs count (first-standing m k us (kind-map k from to .odd)) [])
 
 -- ---- what is accepted
 
@@ -123,4 +149,4 @@ module _ (s : List ℕ) (x : Step) (n : ℕ) (b : Bytes s) (h : decode s ≡ Rec
       let f = found s x n h in
       let a = f .passed in
       let k : step-of (kind-at s) (fields widths (map-of (kind-at s)) s 1) ≡ x = rw (← a .map) (f .step) in
-      subst Fits k (fits-read s b (kind-at s) (a .from) (a .to))
+      subst Fits k (fits-read s (kind-at s) (a .from) (a .to) refl b)

@@ -8,7 +8,8 @@ use lib.ListN.{length}
 use lib.Dec.{ltb, leb, eqb}
 use borrow.Author.Tests.{ltb-true, ltb-false, leb-true, leb-false, eqb-true, eqb-false, lt-ltb, le-ltb, le-leb, lt-leb, eq-eqb, ne-eqb}
 use Rattle.requests.specs.Answers.{Numbers, refused}
-use Rattle.session.specs.Layout.{stands, record-length, last-kind, map-of}
+use Rattle.players.specs.Kinds.{stands, last-kind, map-of}
+use Rattle.session.specs.Layout.{record-length}
 use Rattle.session.specs.declared.Decoded.{Decoded}
 use Rattle.session.specs.declared.Decoded.the-variants.{Refused}
 use Rattle.session.specs.Records.{cut-short, unknown-field, unknown-kind, wrong-fields, map-at, kind-at, tested, Decodes}

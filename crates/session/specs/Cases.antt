@@ -9,8 +9,9 @@ use Rattle.players.specs.declared.Step.{Step}
 use Rattle.players.specs.Replies.{reply, done, issued, cache-read, store-read, rejected, granted, refusal}
 use Rattle.players.specs.Rules.{State, replies, fresh}
 use Rattle.players.specs.Cases.{session as session-steps, cases as step-cases, Case as StepCase}
-use Rattle.session.specs.Layout.{fields-length, record-length, fields, field-bytes, map-of}
-use Rattle.session.specs.Records.{cut-short, unknown-field, unknown-kind, wrong-fields, step-of, tested, decode, numbers, encode-all}
+use Rattle.players.specs.Kinds.{map-of, step-of}
+use Rattle.session.specs.Layout.{fields-length, record-length, fields, field-bytes}
+use Rattle.session.specs.Records.{cut-short, unknown-field, unknown-kind, wrong-fields, tested, decode, numbers, encode-all}
 use Rattle.session.specs.Mark.{mark, begins}
 use Rattle.session.specs.Runs.{at-end, spent, no-mark, run, run-from}
 

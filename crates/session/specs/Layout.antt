@@ -1,19 +1,15 @@
 -- The layout of a record, for any map and any widths of fields: its length, its fields as numbers, and its fields as bytes. Quoted words
 -- are document 01's.
 -- Assumes nothing.
-use mathlib.Core.Bool.{Bool, cond}
+use mathlib.Core.Bool.{cond}
 use mathlib.Core.List.{List, [], _∷_, _++_}
 use Prim.Native.Nat.{ℕ, zero, suc, _+_, _*_, _/_, _%_}
-use lib.Dec.{eqb}
 use lib.ListN.{getD, drop}
+use Rattle.players.specs.Kinds.{stands}
 
 -- "bit 0 kind (1 byte), 1 player (1), 2 entry or low (1), 3 high (2), 4 value (4), 5 serial (4)"
 abbrev pub widths : List ℕ
 widths = 1 ∷ 1 ∷ 1 ∷ 2 ∷ 4 ∷ 4 ∷ []
-
--- bit 0 stands; the next bit is bit 0 of m / 2
-abbrev pub stands : ℕ → Bool
-stands m = eqb (m % 2) 1
 
 -- ---- lengths
 
@@ -52,16 +48,3 @@ unfoldable pub field-bytes : List ℕ → ℕ → List ℕ → List ℕ
 field-bytes [] m vs = []
 field-bytes (w ∷ ws) m vs =
     cond (stands m) (bytes w (getD vs 0 0) ++ field-bytes ws (m / 2) (drop 1 vs)) (field-bytes ws (m / 2) vs)
-
--- ---- kinds
-
--- "kind not 1 to 13"
-abbrev pub last-kind : ℕ
-last-kind = 13
-
--- "Maps: 0F for kinds 1 and 3; 0D for 2; 07 for 4; 17 for 5; 21 for 6 to 9; 05 for 10 to 12; 03 for 13", from kind 0, which is none
-abbrev pub maps : List ℕ
-maps = 0x00 ∷ 0x0F ∷ 0x0D ∷ 0x0F ∷ 0x07 ∷ 0x17 ∷ 0x21 ∷ 0x21 ∷ 0x21 ∷ 0x21 ∷ 0x05 ∷ 0x05 ∷ 0x05 ∷ 0x03 ∷ []
-
-unfoldable pub map-of : ℕ → ℕ
-map-of k = getD maps k 0

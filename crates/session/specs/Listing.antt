@@ -8,8 +8,9 @@ use lib.Dec.{ltb}
 use Rattle.store.specs.Model.{unbroken}
 use Rattle.store.specs.declared.Reply.{Reply}
 use Rattle.players.specs.Rules.{fresh}
-use Rattle.session.specs.Layout.{fields-length, record-length, fields, map-of}
-use Rattle.session.specs.Records.{step-of, tested}
+use Rattle.players.specs.Kinds.{map-of, step-of}
+use Rattle.session.specs.Layout.{fields-length, record-length, fields}
+use Rattle.session.specs.Records.{tested}
 use Rattle.session.specs.Mark.{begins}
 use Rattle.session.specs.declared.Report.{Report}
 use Rattle.session.specs.Runs.{Run, run, run-from}

@@ -6,11 +6,11 @@ use mathlib.Core.List.{List, [], _∷_, _++_}
 use Prim.Native.Nat.{ℕ, _<_}
 use lib.ListN.{length, getD}
 use lib.Dec.{ltb, leb, eqb}
-use Rattle.store.specs.declared.Range.{Range}
 use Rattle.requests.specs.Answers.{Numbers, gives, refused}
 use Rattle.players.specs.declared.Step.{Step}
-use Rattle.players.specs.declared.Step.the-variants.{Assign, Release, RequestGuard, Read, Write, Deliver, Respond, Abandon, Lose, Split, Merge, RestartTablet, RestartPlayer}
-use Rattle.session.specs.Layout.{widths, stands, record-length, fields, field-bytes, last-kind, map-of}
+use Rattle.players.specs.Kinds.{stands, last-kind, map-of, kind-and-fields, kind, step-of}
+use Rattle.session.specs.Layout.{widths, record-length, fields, field-bytes}
+use Rattle.session.specs.Fields.{standing}
 use Rattle.session.specs.declared.Decoded.{Decoded}
 use Rattle.session.specs.declared.Decoded.the-variants.{Record, Refused}
 
@@ -31,50 +31,6 @@ unknown-kind = 26
 -- "kind missing, or other fields than the kind's"
 abbrev pub wrong-fields : ℕ
 wrong-fields = 27
-
--- ---- steps
-
--- "a step is its kind with that kind's fields and nothing else": the kind, then the fields in the order of their bits
-abbrev pub kind-and-fields : Step → List ℕ
-kind-and-fields (Assign p r) = 1 ∷ p ∷ r .low ∷ r .high ∷ []
-kind-and-fields (Release r) = 2 ∷ r .low ∷ r .high ∷ []
-kind-and-fields (RequestGuard p r) = 3 ∷ p ∷ r .low ∷ r .high ∷ []
-kind-and-fields (Read p e) = 4 ∷ p ∷ e ∷ []
-kind-and-fields (Write p e v) = 5 ∷ p ∷ e ∷ v ∷ []
-kind-and-fields (Deliver n) = 6 ∷ n ∷ []
-kind-and-fields (Respond n) = 7 ∷ n ∷ []
-kind-and-fields (Abandon n) = 8 ∷ n ∷ []
-kind-and-fields (Lose n) = 9 ∷ n ∷ []
-kind-and-fields (Split e) = 10 ∷ e ∷ []
-kind-and-fields (Merge e) = 11 ∷ e ∷ []
-kind-and-fields (RestartTablet e) = 12 ∷ e ∷ []
-kind-and-fields (RestartPlayer p) = 13 ∷ p ∷ []
-
-abbrev pub kind : Step → ℕ
-kind x = getD (kind-and-fields x) 0 0
-
-abbrev range : ℕ → ℕ → Range
-range lo hi = record { low = lo; high = hi }
-
--- the step of the kind k, 1 to the last, with this kind and these fields
-unfoldable pub step-of : ℕ → List ℕ → Step
-step-of k vs =
-    let a = getD vs 1 0 in
-    let b = getD vs 2 0 in
-    let c = getD vs 3 0 in
-    cond (eqb k 1) (Assign a (range b c))
-    (cond (eqb k 2) (Release (range a b))
-    (cond (eqb k 3) (RequestGuard a (range b c))
-    (cond (eqb k 4) (Read a b)
-    (cond (eqb k 5) (Write a b c)
-    (cond (eqb k 6) (Deliver a)
-    (cond (eqb k 7) (Respond a)
-    (cond (eqb k 8) (Abandon a)
-    (cond (eqb k 9) (Lose a)
-    (cond (eqb k 10) (Split a)
-    (cond (eqb k 11) (Merge a)
-    (cond (eqb k 12) (RestartTablet a)
-    (RestartPlayer a))))))))))))
 
 -- ---- reading
 
@@ -103,6 +59,12 @@ tested s refused taken =
 abbrev pub decode : List ℕ → Decoded
 decode s = tested s Refused (Record (step-of (kind-at s) (fields-at s)) (record-length (map-at s)))
 
+-- the step of the kind with these six numbers, those that it lacks passed over: what its record reads as, or 26
+abbrev pub of-numbers : List ℕ → Decoded
+of-numbers vs =
+    let k = getD vs 0 0 in
+    cond (ltb k 1 || ltb last-kind k) (Refused unknown-kind) (Record (step-of k (standing (map-of k) vs)) (record-length (map-of k)))
+
 -- ---- the document's numbers
 
 -- those of each case of the decoder's answer: 0 with the record's length, the step's kind and its fields, or the refusal's number and two zeros
@@ -120,6 +82,10 @@ pub record Decodes (s : List ℕ) (d : Decoded) : Type 0 where
   pub numbered : numbers d ≡ record-numbers s
 
 -- ---- writing
+
+-- the record of six numbers: the kind's map, and those that stand in it
+abbrev pub record-of : List ℕ → List ℕ
+record-of vs = let m = map-of (getD vs 0 0) in m ∷ field-bytes widths m (standing m vs)
 
 -- the kind's map, the kind and its fields
 abbrev pub encode : Step → List ℕ

@@ -8,7 +8,6 @@ pub mod mark;
 mod numbers;
 pub mod records;
 pub mod sizes;
-pub mod step_fields;
 mod text;
 
 use players::Step;

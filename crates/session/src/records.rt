@@ -1,72 +1,22 @@
 // Records: a bit map, then only the fields whose bit stands.
 use crate::Decoded;
+use crate::Fields;
 use crate::buffer;
 use crate::codes;
 use crate::kinds;
 use crate::layout;
 use crate::numbers;
-use crate::step_fields;
 use players::Step;
 use store::Reply;
 ghost use mathlib.Core.Path.{_≡_};
 ghost use Prim.Native.Nat.{_%_, _≤_, _<_};
 ghost use lib.ListN.{length};
-ghost use Rattle.session.specs.Layout.{widths, fields, record-length, map-of, last-kind};
+ghost use Rattle.players.specs.Kinds.{last-kind};
+ghost use Rattle.session.specs.Layout.{record-length};
+ghost use Rattle.session.specs.Fields.{numbers};
+ghost use Rattle.session.specs.Text.{Puts};
 ghost use Rattle.session.specs.Written.{wrote, written};
-ghost use Rattle.session.specs.Records.{step-of, map-at, Decodes, encode};
-
-// The step of a kind whose fields stand in the part.
-fn step_of(kind: u8, part: &[u8]) -> Step
-    requires { ⌜ (1 ≤ kind) × (kind ≤ last-kind) ⌝ }
-    ensures { λ r. ⌜ r ≡ step-of kind (fields widths (map-of kind) (now (part .entry)) 1) ⌝ }
-{
-    match kind {
-        kinds::ASSIGN => Step::Assign {
-            player: numbers::byte_at(part, 2),
-            range: numbers::range_at(part, 3),
-        },
-        kinds::RELEASE => Step::Release {
-            range: numbers::range_at(part, 2),
-        },
-        kinds::REQUEST_GUARD => Step::RequestGuard {
-            player: numbers::byte_at(part, 2),
-            range: numbers::range_at(part, 3),
-        },
-        kinds::READ => Step::Read {
-            player: numbers::byte_at(part, 2),
-            entry: numbers::byte_at(part, 3),
-        },
-        kinds::WRITE => Step::Write {
-            player: numbers::byte_at(part, 2),
-            entry: numbers::byte_at(part, 3),
-            value: numbers::word32(part, 4),
-        },
-        kinds::DELIVER => Step::Deliver {
-            serial: numbers::word32(part, 2),
-        },
-        kinds::RESPOND => Step::Respond {
-            serial: numbers::word32(part, 2),
-        },
-        kinds::ABANDON => Step::Abandon {
-            serial: numbers::word32(part, 2),
-        },
-        kinds::LOSE => Step::Lose {
-            serial: numbers::word32(part, 2),
-        },
-        kinds::SPLIT => Step::Split {
-            entry: numbers::byte_at(part, 2),
-        },
-        kinds::MERGE => Step::Merge {
-            entry: numbers::byte_at(part, 2),
-        },
-        kinds::RESTART_TABLET => Step::RestartTablet {
-            entry: numbers::byte_at(part, 2),
-        },
-        _ => Step::RestartPlayer {
-            player: numbers::byte_at(part, 2),
-        },
-    }
-}
+ghost use Rattle.session.specs.Records.{map-at, Decodes, record-of, of-numbers, encode};
 
 // The record at the start of the part, whose map has a kind and whose bytes are there.
 fn of_kind(part: &[u8], map: u8, size: usize) -> Decoded
@@ -80,10 +30,10 @@ fn of_kind(part: &[u8], map: u8, size: usize) -> Decoded
     if kinds::LAST < kind {
         return Decoded::Refused(codes::UNKNOWN_KIND);
     }
-    let right = layout::map_of(kind as usize);
+    let right = kinds::map_of(kind as usize);
     if map == right {
         Decoded::Record {
-            step: step_of(kind, part),
+            step: kinds::step_of(kind, part),
             length: size,
         }
     } else {
@@ -112,13 +62,36 @@ pub fn decode(part: &[u8]) -> Decoded
     of_kind(part, map, size)
 }
 
+// Puts the record of these fields, without those that the kind lacks, at the start of a line, and gives its length.
+fn put(line: &mut [u8], f: Fields) -> usize
+    requires { ⌜ (14 ≤ length (now line)) × (f .kind ≤ last-kind) ⌝ }
+    ensures { λ r. ⌜ Puts (record-of (numbers f)) 14 0 (now (line .entry)) (now (line .exit)) r ⌝ }
+{
+    let map = kinds::map_of(f.kind as usize);
+    numbers::put_record(line, map, f)
+}
+
+// The step of the kind with these fields, those that it lacks passed over: what its record reads as, or 26.
+pub fn of_fields(f: Fields) -> Decoded
+    ensures { λ r. ⌜ r ≡ of-numbers (numbers f) ⌝ }
+{
+    if f.kind < kinds::FIRST {
+        return Decoded::Refused(codes::UNKNOWN_KIND);
+    }
+    if kinds::LAST < f.kind {
+        return Decoded::Refused(codes::UNKNOWN_KIND);
+    }
+    let mut line = [0u8; layout::LONGEST];
+    let n = put(&mut line, f);
+    decode(&line[..n])
+}
+
 // Writes the record of a step to the start of the buffer: 0 and its length, or 36 where the buffer is shorter.
 pub fn encode(step: Step, out: &mut [u8]) -> Reply
     ensures { λ r. ⌜ wrote r (now (out .exit)) ≡ written (encode step) (now (out .entry)) ⌝ }
 {
-    let f = step_fields::fields_of(step);
-    let map = layout::map_of(f.kind as usize);
+    let f = kinds::fields_of(step);
     let mut line = [0u8; layout::LONGEST];
-    let n = numbers::put_record(&mut line, map, f);
+    let n = put(&mut line, f);
     buffer::write(&line[..n], out)
 }

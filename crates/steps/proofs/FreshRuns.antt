@@ -15,7 +15,7 @@ use Rattle.players.specs.Rules.{State, step, fresh}
 use Rattle.players.specs.Table.{players-words, tableOf, valid}
 use Rattle.players.specs.Calls.{whole}
 use Rattle.players.proofs.Tables.{length-of, state-table, ok-fresh}
-use Rattle.players.proofs.Kept.{fresh-valid}
+use Rattle.players.proofs.CallLaws.{fresh-valid}
 use Rattle.session.specs.declared.Decoded.{Decoded}
 use Rattle.session.specs.declared.Decoded.the-variants.{Record, Refused}
 use Rattle.session.specs.Records.{decode}

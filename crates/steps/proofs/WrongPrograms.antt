@@ -23,8 +23,9 @@ use Rattle.players.specs.Played.{taken, state-after}
 use Rattle.players.specs.Cases.{range}
 use Rattle.session.specs.declared.Decoded.{Decoded}
 use Rattle.session.specs.declared.Decoded.the-variants.{Record, Refused}
-use Rattle.session.specs.Layout.{widths, stands, fields-length, record-length, fields, map-of}
-use Rattle.session.specs.Records.{kind-and-fields, kind, step-of, tested, decode}
+use Rattle.players.specs.Kinds.{stands, map-of, kind-and-fields, kind, step-of}
+use Rattle.session.specs.Layout.{widths, fields-length, record-length, fields}
+use Rattle.session.specs.Records.{tested, decode}
 use Rattle.session.specs.Mark.{mark, begins, marked}
 use Rattle.session.specs.Runs.{Run, stopped, took, on-record, run-from, allowed, steps-from, steps, longest, whole-places}
 use Rattle.requests.proofs.Basics.{cond-elim}

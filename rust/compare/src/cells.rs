@@ -5,7 +5,7 @@
 //! exported calls (26, and 27 for a field that the kind lacks).
 
 use calls::KINDS;
-use model::reply::REPLIES;
+use model::rules::REPLIES;
 use model::table_rules::TableRule;
 
 /// A call, for a step also its kind.

@@ -74,8 +74,17 @@ enum Taken {
     Newest,
 }
 
-/// How often each kind is drawn before a profile changes it.
-const WEIGHTS: [u32; KINDS as usize] = [8, 1, 20, 40, 40, 80, 80, 12, 5, 2, 3, 2, 2];
+/// How often each kind is drawn before a profile changes it; those after the last that stands here as often as it.
+const WEIGHTS: [u32; KINDS as usize] = {
+    let first = [8, 1, 20, 40, 40, 80, 80, 12, 5, 2, 3, 2];
+    let mut weights = [first[first.len() - 1]; KINDS as usize];
+    let mut at = 0;
+    while at < first.len() {
+        weights[at] = first[at];
+        at += 1;
+    }
+    weights
+};
 
 impl Profile {
     /// A new profile, of steps of the kinds 1 up to this one.

@@ -1,6 +1,6 @@
 //! Replies and refusals.
 
-use calls::{Reply, KINDS};
+use calls::Reply;
 
 /// The codes of the section "Replies".
 pub mod code {
@@ -77,27 +77,3 @@ impl From<Refusal> for Reply {
         Reply::refused(refusal.number())
     }
 }
-
-/// What each kind of step can reply, kind 1 first, but for 21 and 22: "Step 1 to 5 give 1 unless
-/// read from memory; 7 gives 3 to 8; the rest 0", and "Who can cause a refusal".
-pub const REPLIES: [&[u32]; KINDS as usize] = [
-    // "1 assign, 2 release: take a serial": 1; 28 player, range; 34. They test no owner.
-    &[1, 28, 34],
-    &[1, 28, 34],
-    // "29 not owner of every entry (steps 3, 5)"; "31 ... (step 3)"; "33 a row is needed"; 34.
-    &[1, 28, 29, 31, 33, 34],
-    // "Any player may read": no 29; from memory 2.
-    &[1, 2, 28, 33, 34],
-    // "30 no live guard (step 5)".
-    &[1, 28, 29, 30, 33, 34],
-    // "32 no row that this step fits (6 not arrived; 7 arrived and waiting; 8 waiting; 9 given up)".
-    &[0, 32],
-    &[3, 4, 5, 6, 7, 8, 32],
-    &[0, 32],
-    &[0, 32],
-    // "28 ... split or merge at entry 0"; "35 split at a border, merge where none is".
-    &[0, 28, 35],
-    &[0, 28, 35],
-    &[0],
-    &[0, 28],
-];

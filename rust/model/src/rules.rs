@@ -4,7 +4,7 @@
 //! words (see `tables`); the others are tested here in this order, and a refused step changes
 //! nothing.
 
-use calls::{Range, Reply, Step};
+use calls::{bit, Fields, Range, Reply, Step, KINDS};
 
 use crate::faults::{Fault, NoFault, Switches};
 use crate::numbers::{Entries, ENTRIES, MAX_REQUESTS, MAX_SERIAL, NOBODY, PLAYERS};
@@ -21,6 +21,30 @@ pub fn step(state: &mut State, step: Step) -> Reply {
 pub fn step_with(state: &mut State, step: Step, faults: &impl Switches) -> Reply {
     perform(state, step, faults).unwrap_or_else(Reply::from)
 }
+
+/// What each kind of step can reply, kind 1 first, but for 21 and 22: "Step 1 to 5 give 1 unless
+/// read from memory; 7 gives 3 to 8; the rest 0", and "Who can cause a refusal".
+pub const REPLIES: [&[u32]; KINDS as usize] = [
+    // "1 assign, 2 release: take a serial": 1; 28 player, range; 34. They test no owner.
+    &[1, 28, 34],
+    &[1, 28, 34],
+    // "29 not owner of every entry (steps 3, 5)"; "31 ... (step 3)"; "33 a row is needed"; 34.
+    &[1, 28, 29, 31, 33, 34],
+    // "Any player may read": no 29; from memory 2.
+    &[1, 2, 28, 33, 34],
+    // "30 no live guard (step 5)".
+    &[1, 28, 29, 30, 33, 34],
+    // "32 no row that this step fits (6 not arrived; 7 arrived and waiting; 8 waiting; 9 given up)".
+    &[0, 32],
+    &[3, 4, 5, 6, 7, 8, 32],
+    &[0, 32],
+    &[0, 32],
+    // "28 ... split or merge at entry 0"; "35 split at a border, merge where none is".
+    &[0, 28, 35],
+    &[0, 28, 35],
+    &[0],
+    &[0, 28],
+];
 
 fn perform(state: &mut State, step: Step, faults: &impl Switches) -> Result<Reply, Refusal> {
     test_numbers(step)?;
@@ -50,21 +74,11 @@ fn perform(state: &mut State, step: Step, faults: &impl Switches) -> Result<Repl
 
 /// "28 player above 7, low not below high, high above 256, or split or merge at entry 0".
 fn test_numbers(step: Step) -> Result<(), Refusal> {
-    let good = match step {
-        Step::Assign { player, range } | Step::RequestGuard { player, range } => {
-            is_player(player) && range.is_valid()
-        }
-        Step::Release { range } => range.is_valid(),
-        Step::Read { player, .. } | Step::Write { player, .. } | Step::RestartPlayer { player } => {
-            is_player(player)
-        }
-        Step::Split { entry } | Step::Merge { entry } => entry != 0,
-        Step::Deliver { .. }
-        | Step::Respond { .. }
-        | Step::Abandon { .. }
-        | Step::Lose { .. }
-        | Step::RestartTablet { .. } => true,
-    };
+    let fields = Fields::from(step);
+    let has = |bit: u8| step.map() & bit != 0;
+    let good = (!has(bit::PLAYER) || is_player(fields.player))
+        && (!has(bit::HIGH) || Range::new(fields.entry, fields.high).is_valid())
+        && !matches!(step, Step::Split { entry: 0 } | Step::Merge { entry: 0 });
     good.then_some(()).ok_or(Refusal::Number)
 }
 

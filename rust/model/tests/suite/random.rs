@@ -8,7 +8,7 @@ use model::claim::check;
 use model::faults::NoFault;
 use model::generate::{step_for, Profile};
 use model::prng::Prng;
-use model::reply::REPLIES;
+use model::rules::REPLIES;
 use model::rules;
 use model::state::State;
 use model::states::any_state;

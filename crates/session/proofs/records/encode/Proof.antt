@@ -17,52 +17,43 @@ use Rattle.session.proofs.records.encode.Tie as tie
 fields-of-requires : tie.Need-fields-of-requires
 fields-of-requires c κs = search needs
 
-cast-map-of : tie.Need-cast-map-of
-cast-map-of c = search needs
+slice-aggregate-put : tie.Need-slice-aggregate-put
+slice-aggregate-put c = search needs
 
-map-of-requires : tie.Need-map-of-requires
-map-of-requires c κs = first-known (c .before .before .before .args .step) _ (c .before .fields-of .ensures)
-
-slice-aggregate-put-record : tie.Need-slice-aggregate-put-record
-slice-aggregate-put-record c = search needs
-
-put-record-requires : tie.Need-put-record-requires
-put-record-requires c κs = search needs
+put-requires : tie.Need-put-requires
+put-requires c κs = (omega arith, first-known (c .before .before .before .args .step) _ (c .before .fields-of .ensures))
 
 array-share-prefix-line : tie.Need-array-share-prefix-line
 array-share-prefix-line c = search needs
 
 slice-aggregate-write : tie.Need-slice-aggregate-write
 slice-aggregate-write c =
-    let n = c .before .before .put-record .result in
-    let l = c .before .before .put-record .last .0 in
+    let n = c .before .before .put .result in
+    let l = c .before .before .put .last .0 in
     let h : n ≤ length l = search needs in
     sym (length-take-le n l h)
 
 write-requires : tie.Need-write-requires
-write-requires c κs = take-few (c .before .before .before .put-record .result) 255 _ (omega arith)
+write-requires c κs = take-few (c .before .before .before .put .result) 255 _ (omega arith)
 
 same-length : tie.Need-same-length
 same-length c = search needs
 
 returns : tie.Need-returns
 returns c =
-    let line = c .before .before .before .before .before .before in
-    let map = line .before .before in
-    let fields = map .before .before in
+    let w = c .before .before in
+    let line = w .before .before .before .before in
+    let fields = line .before .before in
     let a = fields .before .before .args in
-    c .before .before .write .ensures
-    ∙ ap (λ (l : List ℕ). written l (now (a .out))) (line .put-record .ensures .stands ∙ encoded (a .step) _ _ (fields .fields-of .ensures) (map .map-of .ensures))
+    w .write .ensures ∙ ap (λ (l : List ℕ). written l (now (a .out))) (line .put .ensures .stands ∙ encoded (a .step) _ (fields .fields-of .ensures))
 
 pub encode-spec : {M : Type 1} → statement M
 encode-spec =
     tie.close
     (tie.spec
     fields-of-requires
-    cast-map-of
-    map-of-requires
-    slice-aggregate-put-record
-    put-record-requires
+    slice-aggregate-put
+    put-requires
     array-share-prefix-line
     slice-aggregate-write
     write-requires

@@ -3,7 +3,7 @@
 use mathlib.Core.Path.{_∙_, sym, ap}
 use native.Mathlib.Omega.{arith}
 use denote.Ref.{now}
-use Rattle.session.specs.Layout.{map-of}
+use Rattle.players.specs.Kinds.{map-of}
 use Rattle.session.specs.Records.{unknown-kind, wrong-fields}
 use Rattle.session.proofs.Tested.{kind-zero, kind-above, other-map, accepted, refusal-decodes}
 use Rattle.session.proofs.RoundTrip.{record-decodes}

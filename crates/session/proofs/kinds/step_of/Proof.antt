@@ -1,12 +1,12 @@
--- `session::records::step_of` meets its contract: an arm a kind.
+-- `session::kinds::step_of` meets its contract: an arm a kind.
 -- Assumes nothing.
 use native.Mathlib.Nat.{le-antisymm}
-use Rattle.session.specs.Layout.{fields, map-of}
-use Rattle.session.specs.Records.{step-of}
+use Rattle.players.specs.Kinds.{map-of, step-of}
+use Rattle.session.specs.Layout.{fields}
 use borrow.Author.Needs.{needs}
 use Rattle.session.proofs.StepLaws.{beyond}
-use Rattle.session.proofs.records.step_of.Statement.{statement}
-use Rattle.session.proofs.records.step_of.Tie as tie
+use Rattle.session.proofs.kinds.step_of.Statement.{statement}
+use Rattle.session.proofs.kinds.step_of.Tie as tie
 
 byte-at-requires : tie.Need-byte-at-requires
 byte-at-requires c κs = search needs

@@ -1,10 +1,9 @@
--- `session::step_fields::fields_of` meets its contract: an arm a kind.
+-- `session::kinds::fields_of` meets its contract: an arm a kind.
 -- Assumes nothing.
-use Rattle.session.specs.Layout.{map-of}
-use Rattle.session.specs.Fields.{spread}
+use Rattle.players.specs.Kinds.{map-of, spread}
 use borrow.Author.Needs.{needs}
-use Rattle.session.proofs.step_fields.fields_of.Statement.{statement}
-use Rattle.session.proofs.step_fields.fields_of.Tie as tie
+use Rattle.session.proofs.kinds.fields_of.Statement.{statement}
+use Rattle.session.proofs.kinds.fields_of.Tie as tie
 
 enum-known-step : tie.Need-enum-known-step
 enum-known-step c = search needs

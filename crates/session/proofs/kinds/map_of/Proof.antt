@@ -1,9 +1,9 @@
--- `session::layout::map_of` meets its contract: the constant is the list of the definition.
+-- `session::kinds::map_of` meets its contract: the constant is the list of the definition.
 -- Assumes nothing.
 use borrow.Author.Needs.{needs}
-use Rattle.session.specs.Layout.{map-of}
-use Rattle.session.proofs.layout.map_of.Statement.{statement}
-use Rattle.session.proofs.layout.map_of.Tie as tie
+use Rattle.players.specs.Kinds.{map-of}
+use Rattle.session.proofs.kinds.map_of.Statement.{statement}
+use Rattle.session.proofs.kinds.map_of.Tie as tie
 
 array-read-result : tie.Need-array-read-result
 array-read-result c = search needs
