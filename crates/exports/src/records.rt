@@ -51,7 +51,7 @@ pub extern "C" fn famdrize_decode(part: &[u8]) -> RecordFields
     let found = session::records::decode(part);
     match found {
         Decoded::Record { step, length } => {
-            record_with(length as u32, session::step_fields::fields_of(step))
+            record_with(length as u32, session::kinds::fields_of(step))
         }
         Decoded::Refused(code) => RecordFields {
             code,
