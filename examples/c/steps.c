@@ -26,7 +26,7 @@ static void steps(void)
     print("respond", step(FAMDRIZE_RESPOND, 0, 0, 0, 0, 2));
     print("respond again", step(FAMDRIZE_RESPOND, 0, 0, 0, 0, 2));
     print("split with a value", step(FAMDRIZE_SPLIT, 0, 128, 0, 1, 0));
-    print("kind 14", step(14, 0, 0, 0, 0, 0));
+    print("kind 200", step(200, 0, 0, 0, 0, 0));
     print("check", famdrize_check(store, FAMDRIZE_STORE_WORDS, players, FAMDRIZE_PLAYERS_WORDS));
     print("check one word less", famdrize_check(store, FAMDRIZE_STORE_WORDS - 1, players, FAMDRIZE_PLAYERS_WORDS));
 }

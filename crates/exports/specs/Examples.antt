@@ -2,9 +2,10 @@
 -- Assumes nothing.
 use mathlib.Core.Path.{_≡_, refl}
 use mathlib.Core.List.{[], _∷_, map}
+use Prim.Native.Nat.{_+_}
 use Rattle.players.specs.declared.Step.the-variants.{Assign, Release, Write, Deliver, RestartPlayer}
 use Rattle.players.specs.Cases.{range}
-use Rattle.players.specs.Kinds.{map-of, step-of, spread}
+use Rattle.players.specs.Kinds.{last-kind, map-of, step-of, spread}
 use Rattle.session.specs.Layout.{record-length, fields-length, fields}
 use Rattle.session.specs.Records.{unknown-kind, wrong-fields, tested, decode}
 use Rattle.session.specs.Fields.{standing, six}
@@ -19,9 +20,9 @@ pub taken-case :
 unfolding stated standing others-zero map-of step-of
 taken-case = refl
 
--- kinds 0, 14 and 255; then a field that the kind lacks: a release's player, a read's high, a write's serial, a split's value
+-- kinds 0, the one after the last, and 255; then a field that the kind lacks: a release's player, a read's high, a write's serial, a split's value
 pub refused-case :
-    map stated (six 0 0 0 0 0 0 ∷ six 14 0 0 0 0 0 ∷ six 255 1 1 1 1 1 ∷ six 2 1 40 60 0 0 ∷ six 4 1 45 46 0 0 ∷ six 5 1 45 0 7 1 ∷ six 10 0 45 0 1 0 ∷ [])
+    map stated (six 0 0 0 0 0 0 ∷ six (last-kind + 1) 0 0 0 0 0 ∷ six 255 1 1 1 1 1 ∷ six 2 1 40 60 0 0 ∷ six 4 1 45 46 0 0 ∷ six 5 1 45 0 7 1 ∷ six 10 0 45 0 1 0 ∷ [])
     ≡ Refused unknown-kind ∷ Refused unknown-kind ∷ Refused unknown-kind ∷ Refused wrong-fields ∷ Refused wrong-fields ∷ Refused wrong-fields ∷ Refused wrong-fields ∷ []
 unfolding stated standing others-zero map-of step-of
 refused-case = refl

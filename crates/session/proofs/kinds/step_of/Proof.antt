@@ -114,19 +114,30 @@ returns-13 : tie.Need-returns-13
 unfolding step-of map-of fields
 returns-13 c =
     let k = c .before .before .before .args .kind in
-    let r = c .before .match .rest in
-    let b1 = beyond 1 k (c .before .before .before .pre .0) (r .0 .0 .0 .0 .0 .0 .0 .0 .0 .0 .0 .1) in
-    let b2 = beyond 2 k b1 (r .0 .0 .0 .0 .0 .0 .0 .0 .0 .0 .1) in
-    let b3 = beyond 3 k b2 (r .0 .0 .0 .0 .0 .0 .0 .0 .0 .1) in
-    let b4 = beyond 4 k b3 (r .0 .0 .0 .0 .0 .0 .0 .0 .1) in
-    let b5 = beyond 5 k b4 (r .0 .0 .0 .0 .0 .0 .0 .1) in
-    let b6 = beyond 6 k b5 (r .0 .0 .0 .0 .0 .0 .1) in
-    let b7 = beyond 7 k b6 (r .0 .0 .0 .0 .0 .1) in
-    let b8 = beyond 8 k b7 (r .0 .0 .0 .0 .1) in
-    let b9 = beyond 9 k b8 (r .0 .0 .0 .1) in
-    let b10 = beyond 10 k b9 (r .0 .0 .1) in
-    let b11 = beyond 11 k b10 (r .0 .1) in
-    let b12 = beyond 12 k b11 (r .1) in
+    let r12 = c .before .match .rest in
+    let r11 = r12 .0 in
+    let r10 = r11 .0 in
+    let r9 = r10 .0 in
+    let r8 = r9 .0 in
+    let r7 = r8 .0 in
+    let r6 = r7 .0 in
+    let r5 = r6 .0 in
+    let r4 = r5 .0 in
+    let r3 = r4 .0 in
+    let r2 = r3 .0 in
+    let r1 = r2 .0 in
+    let b1 = beyond 1 k (c .before .before .before .pre .0) (r1 .1) in
+    let b2 = beyond 2 k b1 (r2 .1) in
+    let b3 = beyond 3 k b2 (r3 .1) in
+    let b4 = beyond 4 k b3 (r4 .1) in
+    let b5 = beyond 5 k b4 (r5 .1) in
+    let b6 = beyond 6 k b5 (r6 .1) in
+    let b7 = beyond 7 k b6 (r7 .1) in
+    let b8 = beyond 8 k b7 (r8 .1) in
+    let b9 = beyond 9 k b8 (r9 .1) in
+    let b10 = beyond 10 k b9 (r10 .1) in
+    let b11 = beyond 11 k b10 (r11 .1) in
+    let b12 = beyond 12 k b11 (r12 .1) in
     rw (le-antisymm (c .before .before .before .pre .1) b12, c .byte-at10 .ensures)
 
 pub step-of-spec : {M : Type 1} → statement M
