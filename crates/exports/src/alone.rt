@@ -6,6 +6,7 @@ ghost use mathlib.Core.Path.{_≡_};
 ghost use Rattle.store.specs.Calls.{done, checked, called, made-fresh, set-guard, read, write, split, merge, restart};
 ghost use Rattle.players.specs.Cases.{range};
 ghost use Rattle.exports.specs.Calls.{reply-of};
+ghost use Rattle.store.specs.Model.{serials};
 
 // Makes the table fresh.
 #[no_mangle]
@@ -18,7 +19,7 @@ pub extern "C" fn famdrize_store_fresh(store: &mut [u32]) -> Answer
 // Whether the table keeps the rules.
 #[no_mangle]
 pub extern "C" fn famdrize_store_check(store: &[u32]) -> Answer
-    ensures { λ r. ⌜ reply-of r ≡ checked 4000000 (now (store .entry)) ⌝ }
+    ensures { λ r. ⌜ reply-of r ≡ checked serials (now (store .entry)) ⌝ }
 {
     given(store::check(store))
 }

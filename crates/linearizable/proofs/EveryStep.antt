@@ -11,7 +11,7 @@ use borrow.Author.Tests.{eqb-true}
 use Rattle.store.specs.Model.{put, restarted, tablet-end, tablet-first, with-boundary, within}
 use Rattle.players.specs.declared.Step.{Step}
 use Rattle.players.specs.declared.Step.the-variants.{Assign, Release}
-use Rattle.players.specs.Rules.{State, removed, set-boundary, step}
+use Rattle.players.specs.Rules.{State, removed, set-boundary, step, nobody}
 use Rattle.players.proofs.StepCases.{ByCase, step-elim}
 use Rattle.linearizable.specs.Ledger.{Event, Ledger}
 use Rattle.linearizable.proofs.Tests.{and-right}
@@ -27,7 +27,7 @@ kept-cases s i =
     record {
       refused = λ x n h. i;
       assigned = λ p g _ _ _. owner-keeps s i p g;
-      released = λ g _ _. owner-keeps s i 8 g;
+      released = λ g _ _. owner-keeps s i nobody g;
       requested = λ p g _ _ _ t. guard-request-keeps s i p g t;
       reads-cache = λ p e h. i;
       reads-store = λ p e _ _. read-keeps s i p e;
@@ -67,7 +67,7 @@ module _ {h : List Event} {s : State} {l : Ledger} (sim : Sim h s l) (inv : Inv 
       record {
         refused = refused sim inv;
         assigned = λ p g _ _ _. owned sim inv (Assign p g) p g refl refl;
-        released = λ g _ _. owned sim inv (Release g) 8 g refl refl;
+        released = λ g _ _. owned sim inv (Release g) nobody g refl refl;
         requested = λ p g _ _ _ t. request-begins sim inv p g;
         reads-cache = cache-read-begins sim inv;
         reads-store = λ p e _ _. read-begins sim inv p e;

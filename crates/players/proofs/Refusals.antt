@@ -1,5 +1,5 @@
 -- Demand 1: "A refusal gives its number and two zeros and alters no table": of a step, and of making tables fresh, on any two tables. Refusals
--- are the codes from 21 on.
+-- are the codes from `first-refusal` on.
 -- Assumes nothing.
 use mathlib.Core.Path.{_≡_, refl, ap, _∙_}
 use mathlib.Core.Bool.{Bool, true, false, cond}
@@ -7,7 +7,7 @@ use mathlib.Core.List.{List}
 use Prim.Native.Nat.{ℕ, _≤_}
 use native.Mathlib.Omega.{arith}
 use Rattle.players.specs.declared.Step.{Step}
-use Rattle.players.specs.Replies.{refusal, done}
+use Rattle.players.specs.Replies.{first-refusal, refusal, done}
 use Rattle.players.specs.Rules.{step, fresh}
 use Rattle.players.specs.Table.{stateOf, valid}
 use Rattle.players.specs.Calls.{Done, left, encoded, whole, made-fresh}
@@ -17,7 +17,7 @@ use Rattle.players.proofs.StepCases.{step-stays}
 
 -- on any words: a refusal leaves both tables
 pub record Keeps (st t : List ℕ) (d : Done) : Type 0 where
-  pub kept : 21 ≤ d .reply .code → d ≡ left (refusal (d .reply .code)) st t
+  pub kept : first-refusal ≤ d .reply .code → d ≡ left (refusal (d .reply .code)) st t
 
 pub step-keeps : (x : Step) (st t : List ℕ) → Keeps st t (taken x st t)
 step-keeps x st t = by (whole st t) (valid st t) refl refl

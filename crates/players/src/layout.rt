@@ -30,3 +30,6 @@ pub const CELLS: usize = 2048;
 pub const LAST_PLAYER: u8 = 7;
 
 pub const NOBODY: u8 = 8;
+
+// The largest word of an owner.
+pub const LAST_OWNER: u32 = NOBODY as u32;

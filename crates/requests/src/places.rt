@@ -12,7 +12,7 @@ ghost use Prim.Native.Nat.{_+_, _*_, _%_, _≤_, _<_};
 ghost use lib.Dec.{ltb, eqb};
 ghost use lib.ListN.{length, getD, take, drop, set, replicate};
 ghost use Rattle.requests.specs.Model.{by, named};
-ghost use Rattle.requests.specs.Region.{requestAt, bit, wordsOf};
+ghost use Rattle.requests.specs.Region.{requestAt, bit, wordsOf, region-words};
 ghost use Rattle.requests.specs.Calls.{over, closed, crossed, carried, carry};
 
 // A word cut to a player.
@@ -45,7 +45,7 @@ fn flag(x: u32) -> bool
 
 // The request of place `k`.
 pub(crate) fn request_at(region: &[u32], k: usize) -> Request
-    requires { ⌜ (k < 64) × (length (now region) ≡ 768) ⌝ }
+    requires { ⌜ (k < 64) × (length (now region) ≡ region-words) ⌝ }
     ensures { λ r. ⌜ r ≡ requestAt (now (region .entry)) k ⌝ }
 {
     let b = k * layout::SIZE;
@@ -67,7 +67,7 @@ pub(crate) fn request_at(region: &[u32], k: usize) -> Request
 
 // Whether the request of place `k` has the serial, and fits.
 pub(crate) fn is_named(region: &[u32], k: usize, serial: u32, fit: Fit) -> bool
-    requires { ⌜ (k < 64) × (length (now region) ≡ 768) ⌝ }
+    requires { ⌜ (k < 64) × (length (now region) ≡ region-words) ⌝ }
     ensures { λ r. ⌜ r ≡ named fit serial (requestAt (now (region .entry)) k) ⌝ }
 {
     if region[k * layout::SIZE] != serial {
@@ -78,7 +78,7 @@ pub(crate) fn is_named(region: &[u32], k: usize, serial: u32, fit: Fit) -> bool
 
 // Whether there is a place `k`, and it is used.
 pub(crate) fn is_used(region: &[u32], k: usize) -> bool
-    requires { ⌜ length (now region) ≡ 768 ⌝ }
+    requires { ⌜ length (now region) ≡ region-words ⌝ }
     ensures { λ r. ⌜ r ≡ ltb k 64 && not (eqb (getD (now (region .entry)) (k * 12) 0) 0) ⌝ }
 {
     if k >= layout::PLACES {
@@ -96,7 +96,7 @@ fn bit(b: bool) -> u32
 
 // Makes place `k` hold `r`.
 pub(crate) fn put_request(region: &mut [u32], k: usize, r: Request)
-    requires { ⌜ (k < 64) × (length (now region) ≡ 768) ⌝ }
+    requires { ⌜ (k < 64) × (length (now region) ≡ region-words) ⌝ }
     ensures { λ _. ⌜ now (region .exit) ≡ over (now (region .entry)) (k * 12) (wordsOf r) ⌝ }
 {
     let b = k * layout::SIZE;
@@ -130,7 +130,7 @@ fn drop_first(places: &mut [u32])
 
 // Takes place `k` out: later places move down by one, and the last becomes unused.
 pub(crate) fn close(region: &mut [u32], k: usize)
-    requires { ⌜ (k < 64) × (length (now region) ≡ 768) ⌝ }
+    requires { ⌜ (k < 64) × (length (now region) ≡ region-words) ⌝ }
     ensures { λ _. ⌜ now (region .exit) ≡ closed k (now (region .entry)) ⌝ }
 {
     drop_first(&mut region[k * layout::SIZE..]);
@@ -138,7 +138,7 @@ pub(crate) fn close(region: &mut [u32], k: usize)
 
 // Marks the request `r` of place `k` as overlapped if a write crosses it.
 pub(crate) fn overlap(region: &mut [u32], k: usize, r: Request, look: Look)
-    requires { ⌜ (k < 64) × (length (now region) ≡ 768) ⌝ }
+    requires { ⌜ (k < 64) × (length (now region) ≡ region-words) ⌝ }
     ensures { λ _. ⌜ now (region .exit) ≡ cond (crossed look r) (set (now (region .entry)) (k * 12 + 7) 1) (now (region .entry)) ⌝ }
 {
     if !tests::is_crossed(r, look) {
@@ -149,7 +149,7 @@ pub(crate) fn overlap(region: &mut [u32], k: usize, r: Request, look: Look)
 
 // Copies the words of place `k` down to place `j`.
 fn copy_down(region: &mut [u32], j: usize, k: usize)
-    requires { ⌜ (j ≤ k) × (k < 64) × (length (now region) ≡ 768) ⌝ }
+    requires { ⌜ (j ≤ k) × (k < 64) × (length (now region) ≡ region-words) ⌝ }
     ensures { λ _. ⌜ now (region .exit) ≡ over (now (region .entry)) (j * 12) (take 12 (drop (k * 12) (now (region .entry)))) ⌝ }
 {
     let b = j * layout::SIZE;
@@ -163,7 +163,7 @@ fn copy_down(region: &mut [u32], j: usize, k: usize)
 
 // Moves the words of place `k` down to place `j`, unless they are there.
 fn move_down(region: &mut [u32], j: usize, k: usize)
-    requires { ⌜ (j ≤ k) × (k < 64) × (length (now region) ≡ 768) ⌝ }
+    requires { ⌜ (j ≤ k) × (k < 64) × (length (now region) ≡ region-words) ⌝ }
     ensures { λ _. ⌜ now (region .exit) ≡ over (now (region .entry)) (j * 12) (take 12 (drop (k * 12) (now (region .entry)))) ⌝ }
 {
     if j == k {
@@ -174,7 +174,7 @@ fn move_down(region: &mut [u32], j: usize, k: usize)
 
 // Marks the request `r` of place `j` as abandoned if it is the player's.
 fn give_up(region: &mut [u32], j: usize, r: Request, player: u8)
-    requires { ⌜ (j < 64) × (length (now region) ≡ 768) ⌝ }
+    requires { ⌜ (j < 64) × (length (now region) ≡ region-words) ⌝ }
     ensures { λ _. ⌜ now (region .exit) ≡ cond (by player r) (set (now (region .entry)) (j * 12 + 9) 1) (now (region .entry)) ⌝ }
 {
     if r.player != player {
@@ -185,7 +185,7 @@ fn give_up(region: &mut [u32], j: usize, r: Request, player: u8)
 
 // Carries the request of place `k` over to place `j` if it remains when the player restarts. The place for the next one.
 pub(crate) fn carry(region: &mut [u32], j: usize, k: usize, player: u8) -> usize
-    requires { ⌜ (j ≤ k) × (k < 64) × (length (now region) ≡ 768) ⌝ }
+    requires { ⌜ (j ≤ k) × (k < 64) × (length (now region) ≡ region-words) ⌝ }
     ensures { λ r. ⌜ carried r (now (region .exit)) ≡ carry player j k (now (region .entry)) ⌝ }
 {
     let r = request_at(region, k);

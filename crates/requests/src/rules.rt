@@ -7,7 +7,7 @@ use store::words;
 ghost use mathlib.Core.Path.{_≡_};
 ghost use Prim.Native.Nat.{_*_, _<_};
 ghost use lib.ListN.{length, drop};
-ghost use Rattle.requests.specs.Region.{guard-request-holds, read-holds, write-holds, fields-hold, outcome-holds, request-holds, words-fit, places-hold};
+ghost use Rattle.requests.specs.Region.{guard-request-holds, read-holds, write-holds, fields-hold, outcome-holds, request-holds, words-fit, places-hold, region-words};
 
 // Whether the fields of a guard request keep the rules.
 fn guard_request_holds(r: Request) -> bool
@@ -110,7 +110,7 @@ fn request_holds(r: Request, last: u32) -> bool
 
 // Whether the words of place `k` fit their fields.
 fn words_fit(region: &[u32], k: usize) -> bool
-    requires { ⌜ (k < 64) × (length (now region) ≡ 768) ⌝ }
+    requires { ⌜ (k < 64) × (length (now region) ≡ region-words) ⌝ }
     ensures { λ b. ⌜ b ≡ words-fit (drop (k * 12) (now (region .entry))) ⌝ }
 {
     let b = k * layout::SIZE;
@@ -137,7 +137,7 @@ fn words_fit(region: &[u32], k: usize) -> bool
 
 // Whether the 64 places keep the rules.
 pub(crate) fn places_hold(region: &[u32], last: u32) -> bool
-    requires { ⌜ length (now region) ≡ 768 ⌝ }
+    requires { ⌜ length (now region) ≡ region-words ⌝ }
     ensures { λ b. ⌜ b ≡ places-hold last 0 64 (now (region .entry)) ⌝ }
 {
     let mut serial: u32 = 0;

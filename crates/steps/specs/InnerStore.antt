@@ -16,6 +16,7 @@ use Rattle.requests.specs.Calls.{with-delivered, without}
 use Rattle.players.specs.Rules.{State, Result}
 use Rattle.players.specs.Table.{requests-at, players-words, stateOf, valid}
 use Rattle.players.specs.Calls.{left, encoded}
+use Rattle.requests.specs.Region.{region-words}
 
 -- a step that leaves the players' table alone: what it does to a store's table that keeps the rules beside some players'
 pub record Shifts (f : State → Result) (st : List ℕ) (r : Reply) (st′ : List ℕ) : Type 0 where
@@ -36,5 +37,5 @@ performed r st =
 -- the request of place k leaves if it is abandoned, else it is delivered with this outcome
 unfoldable pub settled-words : ℕ → Bool → ℕ → ℕ → List ℕ → List ℕ
 settled-words k abandoned a b t =
-    let w = take 768 (drop requests-at t) in
-    putMid requests-at 768 t (cond abandoned (without k w) (with-delivered k a b w))
+    let w = take region-words (drop requests-at t) in
+    putMid requests-at region-words t (cond abandoned (without k w) (with-delivered k a b w))

@@ -15,10 +15,12 @@ use Rattle.requests.specs.Calls.{with-request, with-abandoned, without}
 use Rattle.players.specs.Replies.{out-of-range}
 use Rattle.players.specs.Rules.{State, Result, check, need-serial, set-owner}
 use Rattle.players.specs.Table.{epochs-at, guards-at, held-at, owners-at, requests-at, values-at, versions-at, stateOf, tableOf, valid}
+use Rattle.store.specs.Table.{store-words}
+use Rattle.requests.specs.Region.{region-words}
 
 -- a step that leaves the store's table alone: what it does to a players' table that keeps the rules beside some store's
 pub record Moves (f : State → Result) (t : List ℕ) (r : Reply) (t′ : List ℕ) : Type 0 where
-  pub moved : (st : List ℕ) → length st ≡ 1280 → T (valid st t) → (r ≡ f (stateOf st t) .reply) × (t′ ≡ tableOf (f (stateOf st t) .state))
+  pub moved : (st : List ℕ) → length st ≡ store-words → T (valid st t) → (r ≡ f (stateOf st t) .reply) × (t′ ≡ tableOf (f (stateOf st t) .state))
 
 -- steps 1 and 2, once the player is known to be one, or nobody
 abbrev pub own : ℕ → Range → State → Result
@@ -49,13 +51,13 @@ all-are v i (suc n) t = eqb (getD t i 0) v && all-are v (suc i) n t
 unfoldable pub added : ℕ → Request → List ℕ → List ℕ
 added k r t =
     let u = set t 0 (r .serial) in
-    putMid requests-at 768 u (with-request k r (take 768 (drop requests-at u)))
+    putMid requests-at region-words u (with-request k r (take region-words (drop requests-at u)))
 
 -- the request of place k leaves if it is delivered, and is abandoned if not
 unfoldable pub giving-up : ℕ → Bool → List ℕ → List ℕ
 giving-up k delivered t =
-    let w = take 768 (drop requests-at t) in
-    putMid requests-at 768 t (cond delivered (without k w) (with-abandoned k w))
+    let w = take region-words (drop requests-at t) in
+    putMid requests-at region-words t (cond delivered (without k w) (with-abandoned k w))
 
 -- what is cached in cell i
 unfoldable pub caching : ℕ → ℕ → ℕ → ℕ → List ℕ → List ℕ

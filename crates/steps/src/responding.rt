@@ -17,7 +17,7 @@ ghost use Rattle.players.specs.declared.Step.the-variants.{Respond};
 ghost use Rattle.players.specs.Rules.{respond, respond-guard-request, respond-read, respond-write, step};
 ghost use Rattle.steps.specs.InnerWords.{Moves, filled};
 ghost use Rattle.steps.specs.InnerRespond.{Responds, still-owning, remembering};
-ghost use Rattle.players.specs.Table.{players-words};
+ghost use Rattle.players.specs.Table.{players-words, held-at};
 
 // Whether the player owns each entry from `low` up to `high` with an epoch below the serial; false where that is no range.
 fn still_owned(players: &[u32], player: u8, low: u8, high: u16, serial: u32) -> bool
@@ -47,7 +47,7 @@ fn still_owned(players: &[u32], player: u8, low: u8, high: u16, serial: u32) -> 
 // The guards of cells `low` up to `high` become `guard`.
 fn grant(players: &mut [u32], low: usize, high: usize, guard: u32)
     requires { ⌜ (length (now players) ≡ players-words) × (low ≤ high) × (high ≤ 2048) ⌝ }
-    ensures { λ _. ⌜ now (players .exit) ≡ filled 513 low high guard (now (players .entry)) ⌝ }
+    ensures { λ _. ⌜ now (players .exit) ≡ filled held-at low high guard (now (players .entry)) ⌝ }
 {
     words::fill(&mut players[layout::HELD + low..layout::HELD + high], guard);
 }

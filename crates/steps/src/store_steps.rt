@@ -17,10 +17,11 @@ ghost use Rattle.players.specs.Rules.{step};
 ghost use Rattle.players.specs.declared.Step.the-variants.{Deliver, Split, Merge, RestartTablet};
 ghost use Rattle.steps.specs.InnerStore.{Shifts, Acts, performed, settled-words};
 ghost use Rattle.players.specs.Table.{players-words};
+ghost use Rattle.store.specs.Table.{store-words};
 
 // Step 10: a boundary before the entry.
 pub(crate) fn split(store: &mut [u32], entry: u8) -> Reply
-    requires { ⌜ length (now store) ≡ 1280 ⌝ }
+    requires { ⌜ length (now store) ≡ store-words ⌝ }
     ensures { λ r. ⌜ Shifts (λ s. step s (Split entry)) (now (store .entry)) r (now (store .exit)) ⌝ }
 {
     store::unchecked::split(store, entry)
@@ -28,7 +29,7 @@ pub(crate) fn split(store: &mut [u32], entry: u8) -> Reply
 
 // Step 11: the boundary before the entry removed.
 pub(crate) fn merge(store: &mut [u32], entry: u8) -> Reply
-    requires { ⌜ length (now store) ≡ 1280 ⌝ }
+    requires { ⌜ length (now store) ≡ store-words ⌝ }
     ensures { λ r. ⌜ Shifts (λ s. step s (Merge entry)) (now (store .entry)) r (now (store .exit)) ⌝ }
 {
     store::unchecked::merge(store, entry)
@@ -36,7 +37,7 @@ pub(crate) fn merge(store: &mut [u32], entry: u8) -> Reply
 
 // Step 12: the guards of the tablet that holds the entry become 0.
 pub(crate) fn restart_tablet(store: &mut [u32], entry: u8) -> Reply
-    requires { ⌜ length (now store) ≡ 1280 ⌝ }
+    requires { ⌜ length (now store) ≡ store-words ⌝ }
     ensures { λ r. ⌜ Shifts (λ s. step s (RestartTablet entry)) (now (store .entry)) r (now (store .exit)) ⌝ }
 {
     store::unchecked::restart(store, entry)
@@ -78,7 +79,7 @@ fn settle(players: &mut [u32], k: usize, abandoned: bool, first: u32, second: u3
 
 // Step 6: a request that is not delivered yet reaches the store. If it is abandoned, it leaves.
 pub(crate) fn deliver(store: &mut [u32], players: &mut [u32], serial: u32) -> Reply
-    requires { ⌜ (length (now store) ≡ 1280) × (length (now players) ≡ players-words) ⌝ }
+    requires { ⌜ (length (now store) ≡ store-words) × (length (now players) ≡ players-words) ⌝ }
     ensures { λ r. ⌜ Acts (λ s. step s (Deliver serial)) (now (store .entry)) (now (players .entry)) r (now (store .exit)) (now (players .exit)) ⌝ }
 {
     let found = region::find(

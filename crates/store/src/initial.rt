@@ -3,7 +3,7 @@ use crate::words;
 ghost use mathlib.Core.Path.{_≡_};
 ghost use lib.ListN.{length, replicate};
 ghost use Rattle.store.specs.Model.{fresh};
-ghost use Rattle.store.specs.Table.{tableOf};
+ghost use Rattle.store.specs.Table.{tableOf, store-words};
 
 // A column of 256 zeros.
 fn lay_zeros(part: &mut [u32])
@@ -16,7 +16,7 @@ fn lay_zeros(part: &mut [u32])
 
 // One tablet, and zeros in all five columns elsewhere: guard 0 everywhere is one interval, from entry 0 on.
 pub(crate) fn lay_store(store: &mut [u32])
-    requires { ⌜ length (now store) ≡ 1280 ⌝ }
+    requires { ⌜ length (now store) ≡ store-words ⌝ }
     ensures { λ _. ⌜ now (store .exit) ≡ tableOf fresh ⌝ }
 {
     let mut k: usize = 0;

@@ -78,8 +78,8 @@ pub const OUTCOMES: &[(Call, u32)] = &[
     (Call::StoreSetGuard, 2),
 ];
 
-/// One more than the largest number of a reply.
-const CODES: usize = 38;
+/// Numbers of replies are below this.
+const CODES: usize = 64;
 
 /// What a call can reply, and how often it gave each reply.
 #[derive(Clone, Debug)]
