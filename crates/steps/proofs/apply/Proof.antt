@@ -1,10 +1,9 @@
 -- `steps::apply` meets its contract: one law and one contract for each kind of step.
 -- Assumes nothing.
 use borrow.Author.Needs.{needs}
-use Rattle.players.specs.Rules.{step}
 use Rattle.players.specs.declared.Step.the-variants.{Assign, Release, RequestGuard, Read, Write, Deliver, Respond, Abandon, Lose, Split, Merge, RestartTablet, RestartPlayer}
 use Rattle.players.proofs.CallLaws.{wrong-length}
-use Rattle.steps.proofs.JoinLaws.{moves-refines, shifts-refines, acts-refines, assign-keeps, release-keeps, request-guard-keeps, read-keeps, write-keeps, respond-keeps, abandon-keeps, lose-keeps, restart-player-keeps, both-long, store-wrong, players-wrong}
+use Rattle.steps.proofs.JoinLaws.{moves-refines, shifts-refines, acts-refines, both-long, store-wrong, players-wrong}
 use Rattle.steps.proofs.apply.Statement.{statement}
 use Rattle.steps.proofs.apply.Tie as tie
 
@@ -114,7 +113,7 @@ returns-3 c =
     let b = n .before .before in
     let a = b .before .before .before .before .args in
     let w = both-long (a .store .now) (a .players .now) (b .before .if1 .left) (b .if2 .left) in
-    rw (n .next .given .1) (moves-refines (λ s. step s (Assign (x .0) (x .1 .0))) (a .store .now) (a .players .now) w _ _ (λ s. assign-keeps s (x .0) (x .1 .0)) (e .assign .ensures))
+    rw (n .next .given .1) (moves-refines (Assign (x .0) (x .1 .0)) (a .store .now) (a .players .now) w _ _ refl (e .assign .ensures))
 
 same-length-2 : tie.Need-same-length-2
 same-length-2 c = search needs
@@ -127,7 +126,7 @@ returns-4 c =
     let b = n .before .before in
     let a = b .before .before .before .before .args in
     let w = both-long (a .store .now) (a .players .now) (b .before .if1 .left) (b .if2 .left) in
-    rw (n .next2 .given .1) (moves-refines (λ s. step s (Release (x .0))) (a .store .now) (a .players .now) w _ _ (λ s. release-keeps s (x .0)) (e .release .ensures))
+    rw (n .next2 .given .1) (moves-refines (Release (x .0)) (a .store .now) (a .players .now) w _ _ refl (e .release .ensures))
 
 same-length-3 : tie.Need-same-length-3
 same-length-3 c = search needs
@@ -140,7 +139,7 @@ returns-5 c =
     let b = n .before .before in
     let a = b .before .before .before .before .args in
     let w = both-long (a .store .now) (a .players .now) (b .before .if1 .left) (b .if2 .left) in
-    rw (n .next3 .given .1) (moves-refines (λ s. step s (RequestGuard (x .0) (x .1 .0))) (a .store .now) (a .players .now) w _ _ (λ s. request-guard-keeps s (x .0) (x .1 .0)) (e .request-guard .ensures))
+    rw (n .next3 .given .1) (moves-refines (RequestGuard (x .0) (x .1 .0)) (a .store .now) (a .players .now) w _ _ refl (e .request-guard .ensures))
 
 same-length-4 : tie.Need-same-length-4
 same-length-4 c = search needs
@@ -153,7 +152,7 @@ returns-6 c =
     let b = n .before .before in
     let a = b .before .before .before .before .args in
     let w = both-long (a .store .now) (a .players .now) (b .before .if1 .left) (b .if2 .left) in
-    rw (n .next4 .given .1) (moves-refines (λ s. step s (Read (x .0) (x .1 .0))) (a .store .now) (a .players .now) w _ _ (λ s. read-keeps s (x .0) (x .1 .0)) (e .read .ensures))
+    rw (n .next4 .given .1) (moves-refines (Read (x .0) (x .1 .0)) (a .store .now) (a .players .now) w _ _ refl (e .read .ensures))
 
 same-length-5 : tie.Need-same-length-5
 same-length-5 c = search needs
@@ -166,7 +165,7 @@ returns-7 c =
     let b = n .before .before in
     let a = b .before .before .before .before .args in
     let w = both-long (a .store .now) (a .players .now) (b .before .if1 .left) (b .if2 .left) in
-    rw (n .next5 .given .1) (moves-refines (λ s. step s (Write (x .0) (x .1 .0) (x .1 .1 .0))) (a .store .now) (a .players .now) w _ _ (λ s. write-keeps s (x .0) (x .1 .0) (x .1 .1 .0)) (e .write .ensures))
+    rw (n .next5 .given .1) (moves-refines (Write (x .0) (x .1 .0) (x .1 .1 .0)) (a .store .now) (a .players .now) w _ _ refl (e .write .ensures))
 
 same-length-6 : tie.Need-same-length-6
 same-length-6 c = search needs
@@ -182,7 +181,7 @@ returns-8 c =
     let b = n .before .before in
     let a = b .before .before .before .before .args in
     let w = both-long (a .store .now) (a .players .now) (b .before .if1 .left) (b .if2 .left) in
-    rw (n .next6 .given .1) (acts-refines (λ s. step s (Deliver (x .0))) (a .store .now) (a .players .now) w _ _ _ (e .deliver .ensures))
+    rw (n .next6 .given .1) (acts-refines (Deliver (x .0)) (a .store .now) (a .players .now) w _ _ _ (e .deliver .ensures))
 
 same-length-8 : tie.Need-same-length-8
 same-length-8 c = search needs
@@ -195,7 +194,7 @@ returns-9 c =
     let b = n .before .before in
     let a = b .before .before .before .before .args in
     let w = both-long (a .store .now) (a .players .now) (b .before .if1 .left) (b .if2 .left) in
-    rw (n .next7 .given .1) (moves-refines (λ s. step s (Respond (x .0))) (a .store .now) (a .players .now) w _ _ (λ s. respond-keeps s (x .0)) (e .respond .ensures))
+    rw (n .next7 .given .1) (moves-refines (Respond (x .0)) (a .store .now) (a .players .now) w _ _ refl (e .respond .ensures))
 
 same-length-9 : tie.Need-same-length-9
 same-length-9 c = search needs
@@ -208,7 +207,7 @@ returns-10 c =
     let b = n .before .before in
     let a = b .before .before .before .before .args in
     let w = both-long (a .store .now) (a .players .now) (b .before .if1 .left) (b .if2 .left) in
-    rw (n .next8 .given .1) (moves-refines (λ s. step s (Abandon (x .0))) (a .store .now) (a .players .now) w _ _ (λ s. abandon-keeps s (x .0)) (e .abandon .ensures))
+    rw (n .next8 .given .1) (moves-refines (Abandon (x .0)) (a .store .now) (a .players .now) w _ _ refl (e .abandon .ensures))
 
 same-length-10 : tie.Need-same-length-10
 same-length-10 c = search needs
@@ -221,7 +220,7 @@ returns-11 c =
     let b = n .before .before in
     let a = b .before .before .before .before .args in
     let w = both-long (a .store .now) (a .players .now) (b .before .if1 .left) (b .if2 .left) in
-    rw (n .next9 .given .1) (moves-refines (λ s. step s (Lose (x .0))) (a .store .now) (a .players .now) w _ _ (λ s. lose-keeps s (x .0)) (e .lose .ensures))
+    rw (n .next9 .given .1) (moves-refines (Lose (x .0)) (a .store .now) (a .players .now) w _ _ refl (e .lose .ensures))
 
 same-length-11 : tie.Need-same-length-11
 same-length-11 c = search needs
@@ -234,7 +233,7 @@ returns-12 c =
     let b = n .before .before in
     let a = b .before .before .before .before .args in
     let w = both-long (a .store .now) (a .players .now) (b .before .if1 .left) (b .if2 .left) in
-    rw (n .next10 .given .1) (shifts-refines (λ s. step s (Split (x .0))) (a .store .now) (a .players .now) w _ _ (e .split .ensures))
+    rw (n .next10 .given .1) (shifts-refines (Split (x .0)) (a .store .now) (a .players .now) w _ _ (e .split .ensures))
 
 same-length-12 : tie.Need-same-length-12
 same-length-12 c = search needs
@@ -247,7 +246,7 @@ returns-13 c =
     let b = n .before .before in
     let a = b .before .before .before .before .args in
     let w = both-long (a .store .now) (a .players .now) (b .before .if1 .left) (b .if2 .left) in
-    rw (n .next11 .given .1) (shifts-refines (λ s. step s (Merge (x .0))) (a .store .now) (a .players .now) w _ _ (e .merge .ensures))
+    rw (n .next11 .given .1) (shifts-refines (Merge (x .0)) (a .store .now) (a .players .now) w _ _ (e .merge .ensures))
 
 same-length-13 : tie.Need-same-length-13
 same-length-13 c = search needs
@@ -260,7 +259,7 @@ returns-14 c =
     let b = n .before .before in
     let a = b .before .before .before .before .args in
     let w = both-long (a .store .now) (a .players .now) (b .before .if1 .left) (b .if2 .left) in
-    rw (n .next12 .given .1) (shifts-refines (λ s. step s (RestartTablet (x .0))) (a .store .now) (a .players .now) w _ _ (e .restart-tablet .ensures))
+    rw (n .next12 .given .1) (shifts-refines (RestartTablet (x .0)) (a .store .now) (a .players .now) w _ _ (e .restart-tablet .ensures))
 
 same-length-14 : tie.Need-same-length-14
 same-length-14 c = search needs
@@ -273,7 +272,7 @@ returns-15 c =
     let b = n .before .before in
     let a = b .before .before .before .before .args in
     let w = both-long (a .store .now) (a .players .now) (b .before .if1 .left) (b .if2 .left) in
-    rw (n .next13 .given .1) (moves-refines (λ s. step s (RestartPlayer (x .0))) (a .store .now) (a .players .now) w _ _ (λ s. restart-player-keeps s (x .0)) (e .restart-player .ensures))
+    rw (n .next13 .given .1) (moves-refines (RestartPlayer (x .0)) (a .store .now) (a .players .now) w _ _ refl (e .restart-player .ensures))
 
 pub apply-spec : {M : Type 1} → statement M
 apply-spec =
