@@ -4,6 +4,7 @@ use crate::lengths::STORE;
 use crate::make;
 use crate::show;
 use crate::trial;
+use players::Step;
 
 // Player 0 reads entry 0 so many times; nothing is shown.
 pub(crate) fn reads(store: &mut [u32; STORE], players: &mut [u32; PLAYERS], times: usize) {
@@ -21,13 +22,13 @@ pub(crate) fn sixty_fifth(store: &mut [u32; STORE], players: &mut [u32; PLAYERS]
     reads(store, players, 63);
     trial::step(store, players, make::read(0, 0));
     trial::same_step(store, players, make::read(0, 0));
-    trial::step(store, players, make::abandon(1));
+    trial::step(store, players, Step::Abandon { serial: 1 });
     trial::same_step(store, players, make::read(0, 0));
-    trial::step(store, players, make::lose(1));
+    trial::step(store, players, Step::Lose { serial: 1 });
     trial::step(store, players, make::read(0, 0));
     trial::same_step(store, players, make::read(0, 0));
-    trial::step(store, players, make::deliver(65));
-    trial::step(store, players, make::respond(65));
+    trial::step(store, players, Step::Deliver { serial: 65 });
+    trial::step(store, players, Step::Respond { serial: 65 });
 }
 
 // A read from the cache needs neither a place nor a serial.
@@ -36,11 +37,11 @@ pub(crate) fn from_memory(store: &mut [u32; STORE], players: &mut [u32; PLAYERS]
     trial::fresh(store, players);
     trial::step(store, players, make::assign(3, 0, 1));
     trial::step(store, players, make::request_guard(3, 0, 1));
-    trial::step(store, players, make::deliver(2));
-    trial::step(store, players, make::respond(2));
+    trial::step(store, players, Step::Deliver { serial: 2 });
+    trial::step(store, players, Step::Respond { serial: 2 });
     trial::step(store, players, make::read(3, 0));
-    trial::step(store, players, make::deliver(3));
-    trial::step(store, players, make::respond(3));
+    trial::step(store, players, Step::Deliver { serial: 3 });
+    trial::step(store, players, Step::Respond { serial: 3 });
     reads(store, players, 63);
     trial::step(store, players, make::read(0, 0));
     trial::same_step(store, players, make::read(0, 0));
@@ -54,13 +55,19 @@ pub(crate) fn unfit(store: &mut [u32; STORE], players: &mut [u32; PLAYERS]) {
     show::say(b"- rows that do not fit\n");
     trial::fresh(store, players);
     trial::step(store, players, make::read(7, 255));
-    trial::same_step(store, players, make::deliver(0));
-    trial::same_step(store, players, make::deliver(4_294_967_295));
-    trial::same_step(store, players, make::respond(1));
-    trial::same_step(store, players, make::lose(1));
-    trial::step(store, players, make::abandon(1));
-    trial::same_step(store, players, make::abandon(1));
-    trial::same_step(store, players, make::respond(1));
-    trial::step(store, players, make::deliver(1));
-    trial::same_step(store, players, make::lose(1));
+    trial::same_step(store, players, Step::Deliver { serial: 0 });
+    trial::same_step(
+        store,
+        players,
+        Step::Deliver {
+            serial: 4_294_967_295,
+        },
+    );
+    trial::same_step(store, players, Step::Respond { serial: 1 });
+    trial::same_step(store, players, Step::Lose { serial: 1 });
+    trial::step(store, players, Step::Abandon { serial: 1 });
+    trial::same_step(store, players, Step::Abandon { serial: 1 });
+    trial::same_step(store, players, Step::Respond { serial: 1 });
+    trial::step(store, players, Step::Deliver { serial: 1 });
+    trial::same_step(store, players, Step::Lose { serial: 1 });
 }

@@ -1,4 +1,4 @@
-// Steps made of their numbers.
+// Steps of several fields, made of their numbers.
 use players::Step;
 use store::Range;
 
@@ -22,28 +22,4 @@ pub(crate) fn write(player: u8, entry: u8, value: u32) -> Step {
         entry,
         value,
     }
-}
-
-pub(crate) fn deliver(serial: u32) -> Step {
-    Step::Deliver { serial }
-}
-
-pub(crate) fn respond(serial: u32) -> Step {
-    Step::Respond { serial }
-}
-
-pub(crate) fn abandon(serial: u32) -> Step {
-    Step::Abandon { serial }
-}
-
-pub(crate) fn lose(serial: u32) -> Step {
-    Step::Lose { serial }
-}
-
-pub(crate) fn split(entry: u8) -> Step {
-    Step::Split { entry }
-}
-
-pub(crate) fn merge(entry: u8) -> Step {
-    Step::Merge { entry }
 }

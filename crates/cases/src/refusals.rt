@@ -34,13 +34,13 @@ pub(crate) fn serials(store: &mut [u32; STORE], players: &mut [u32; PLAYERS]) {
     let range = Range { low: 0, high: 256 };
     trial::same_step(store, players, Step::Release { range });
     trial::same_step(store, players, make::read(0, 0));
-    trial::step(store, players, make::split(9));
+    trial::step(store, players, Step::Split { entry: 9 });
     trial::put(players, 0, 3_999_936);
     in_flight::reads(store, players, 63);
     trial::step(store, players, make::read(0, 0));
     trial::same_step(store, players, make::read(0, 0));
-    trial::step(store, players, make::abandon(3_999_937));
-    trial::step(store, players, make::lose(3_999_937));
+    trial::step(store, players, Step::Abandon { serial: 3_999_937 });
+    trial::step(store, players, Step::Lose { serial: 3_999_937 });
     trial::same_step(store, players, make::read(0, 0));
     trial::put(players, 0, 4_000_001);
     trial::same_step(store, players, make::assign(8, 0, 256));

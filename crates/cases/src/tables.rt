@@ -1,9 +1,9 @@
 // Tables of a wrong length, and tables that break a rule.
 use crate::lengths::PLAYERS;
 use crate::lengths::STORE;
-use crate::make;
 use crate::show;
 use crate::trial;
+use players::Step;
 
 // One word too few in either table, and none at all. Every word is 7, which breaks many rules: 21 comes before 22.
 pub(crate) fn lengths(store: &mut [u32; STORE], players: &mut [u32; PLAYERS]) {
@@ -17,14 +17,14 @@ pub(crate) fn lengths(store: &mut [u32; STORE], players: &mut [u32; PLAYERS]) {
 fn store_word(store: &mut [u32; STORE], players: &mut [u32; PLAYERS], at: u32, word: u32) {
     trial::fresh(store, players);
     trial::put(store, at, word);
-    trial::same_step(store, players, make::split(9));
+    trial::same_step(store, players, Step::Split { entry: 9 });
 }
 
 // Fresh tables with one word of the players' changed.
 fn players_word(store: &mut [u32; STORE], players: &mut [u32; PLAYERS], at: u32, word: u32) {
     trial::fresh(store, players);
     trial::put(players, at, word);
-    trial::same_step(store, players, make::split(9));
+    trial::same_step(store, players, Step::Split { entry: 9 });
 }
 
 // One rule broken at a time, and the tables made fresh again. Last a value that no write made, which breaks no rule.

@@ -25,8 +25,8 @@ pub(crate) fn step(store: &mut [u32; STORE], players: &mut [u32; PLAYERS], next:
 // Player 0 requests a guard over 40 to 60, which is delivered and responded to.
 pub(crate) fn granted(store: &mut [u32; STORE], players: &mut [u32; PLAYERS], serial: u32) {
     step(store, players, make::request_guard(0, 40, 60));
-    step(store, players, make::deliver(serial));
-    step(store, players, make::respond(serial));
+    step(store, players, Step::Deliver { serial });
+    step(store, players, Step::Respond { serial });
 }
 
 // Takes a step, and says whether each table is what it was.
@@ -76,7 +76,7 @@ fn both(store: &mut [u32], players: &mut [u32]) {
     show::say(b", fresh");
     show::reply(players::fresh(store, players));
     show::say(b", ");
-    let next = make::split(9);
+    let next = Step::Split { entry: 9 };
     show::step(next);
     show::reply(steps::step(store, players, next));
 }
