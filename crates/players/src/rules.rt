@@ -2,7 +2,7 @@
 use crate::layout;
 ghost use mathlib.Core.Path.{_≡_};
 ghost use lib.ListN.{length, getD, take, drop};
-ghost use Rattle.players.specs.Table.{players-words, cached-holds, cached-all, valid-players, cells, guards-at, versions-at, values-at};
+ghost use Rattle.players.specs.Table.{players-words, cached-holds, cached-all, valid-players, cell-count, guards-at, versions-at, values-at};
 
 // Whether a cached value keeps the rules.
 fn value_holds(last: u32, guard: u32, version: u32, value: u32) -> bool
@@ -26,7 +26,7 @@ fn value_holds(last: u32, guard: u32, version: u32, value: u32) -> bool
 // Whether each cached value keeps the rules.
 fn values_hold(players: &[u32]) -> bool
     requires { ⌜ length (now players) ≡ players-words ⌝ }
-    ensures { λ r. ⌜ r ≡ cached-all (getD (now (players .entry)) 0 0) (take cells (drop guards-at (now (players .entry)))) (take cells (drop versions-at (now (players .entry)))) (take cells (drop values-at (now (players .entry)))) ⌝ }
+    ensures { λ r. ⌜ r ≡ cached-all (getD (now (players .entry)) 0 0) (take cell-count (drop guards-at (now (players .entry)))) (take cell-count (drop versions-at (now (players .entry)))) (take cell-count (drop values-at (now (players .entry)))) ⌝ }
 {
     let last = players[layout::LAST];
     let mut i = 0;
