@@ -1,5 +1,6 @@
 -- `steps::apply` meets its contract: one law and one contract for each kind of step.
 -- Assumes nothing.
+use mathlib.Core.Path.{refl}
 use borrow.Author.Needs.{needs}
 use Rattle.players.specs.declared.Step.the-variants.{Assign, Release, RequestGuard, Read, Write, Deliver, Respond, Abandon, Lose, Split, Merge, RestartTablet, RestartPlayer}
 use Rattle.players.proofs.CallLaws.{wrong-length}
