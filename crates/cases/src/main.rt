@@ -1,28 +1,32 @@
-// Tries the edges of document 01 at run time, on real tables. Each line is a call with its reply; where a call may change nothing, the two
-// tables are compared with what they were, word by word. The file stdout has the replies that the document demands, worked out by hand.
-mod boundaries;
-mod in_flight;
+// Tries the edges of document 01 at run time, on real tables. Standard input has the calls, one to a line; each is printed with its reply,
+// and where a call may change nothing, the two tables are compared with what they were, word by word. The file stdout has the replies that
+// the document demands, worked out by hand.
+mod calls;
 mod lengths;
-mod make;
-mod refusals;
-mod restarts;
+mod line;
 mod show;
-mod tables;
 mod trial;
 
 use crate::lengths::PLAYERS;
 use crate::lengths::STORE;
 
+// Room for the calls.
+const ROOM: usize = 8192;
+
+// Takes the calls of a text in turn.
+fn play(text: &[u8], store: &mut [u32; STORE], players: &mut [u32; PLAYERS]) {
+    let mut line = line::blank();
+    let mut i: usize = 0;
+    while i < text.len() {
+        line = calls::read_on(line, text[i], store, players);
+        i += 1;
+    }
+}
+
 fn main() {
+    let mut text = [0u8; ROOM];
+    let n = io::read_full(0, &mut text);
     let mut store = [0u32; STORE];
     let mut players = [0u32; PLAYERS];
-    in_flight::sixty_fifth(&mut store, &mut players);
-    in_flight::from_memory(&mut store, &mut players);
-    in_flight::unfit(&mut store, &mut players);
-    refusals::order(&mut store, &mut players);
-    refusals::serials(&mut store, &mut players);
-    tables::lengths(&mut store, &mut players);
-    tables::rules(&mut store, &mut players);
-    restarts::player(&mut store, &mut players);
-    boundaries::pair(&mut store, &mut players);
+    play(&text[..n], &mut store, &mut players);
 }

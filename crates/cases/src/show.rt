@@ -13,6 +13,12 @@ pub(crate) fn say(text: &[u8]) {
     io::write_all(1, text);
 }
 
+// One byte.
+pub(crate) fn byte(b: u8) {
+    let one = [b];
+    say(&one);
+}
+
 // A number after a space.
 fn number(n: u32) {
     say(b" ");

@@ -1,7 +1,6 @@
 // Calls tried and shown, a line for each.
 use crate::lengths::PLAYERS;
 use crate::lengths::STORE;
-use crate::make;
 use crate::show;
 use players::Step;
 use store::words;
@@ -22,11 +21,20 @@ pub(crate) fn step(store: &mut [u32; STORE], players: &mut [u32; PLAYERS], next:
     show::say(b"\n");
 }
 
-// Player 0 requests a guard over 40 to 60, which is delivered and responded to.
-pub(crate) fn granted(store: &mut [u32; STORE], players: &mut [u32; PLAYERS], serial: u32) {
-    step(store, players, make::request_guard(0, 40, 60));
-    step(store, players, Step::Deliver { serial });
-    step(store, players, Step::Respond { serial });
+// Player 0 reads entry 0 so many times; nothing is shown.
+pub(crate) fn reads(store: &mut [u32; STORE], players: &mut [u32; PLAYERS], times: u32) {
+    let mut k: u32 = 0;
+    while k < times {
+        steps::step(
+            store,
+            players,
+            Step::Read {
+                player: 0,
+                entry: 0,
+            },
+        );
+        k += 1;
+    }
 }
 
 // Takes a step, and says whether each table is what it was.

@@ -16,4 +16,3 @@ pub mod RunningLaws
 pub mod RanLaws
 pub mod FreshRuns
 pub mod Refusals
-pub mod WrongPrograms

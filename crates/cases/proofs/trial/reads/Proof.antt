@@ -1,10 +1,10 @@
--- `cases::in_flight::reads` ends. The loop's invariant: no read too many.
+-- `cases::trial::reads` ends. The loop's invariant: no read too many.
 -- Assumes nothing.
 use Prim.Native.Nat.{_≤_, _-_}
 use native.Mathlib.Omega.{arith}
 use borrow.Author.Needs.{needs}
-use Rattle.cases.proofs.in_flight.reads.Statement.{statement}
-use Rattle.cases.proofs.in_flight.reads.Tie as tie
+use Rattle.cases.proofs.trial.reads.Statement.{statement}
+use Rattle.cases.proofs.trial.reads.Tie as tie
 
 abbrev Inv-loop : tie.InvT-loop
 Inv-loop store₀ players₀ times k₀ store players k = k ≤ times
@@ -14,9 +14,6 @@ abbrev μ-loop : tie.MeasureT-loop
 
 loop-holds : tie.Need-loop-holds Inv-loop μ-loop
 loop-holds c = omega arith
-
-read-requires : tie.Need-read-requires Inv-loop μ-loop
-read-requires c κs = search needs
 
 step-requires : tie.Need-step-requires Inv-loop μ-loop
 step-requires c κs = search needs
@@ -34,15 +31,4 @@ returns : tie.Need-returns Inv-loop μ-loop
 returns c = search needs
 
 pub reads-spec : {M : Type 1} → statement M
-reads-spec =
-    tie.close
-    (tie.spec
-    Inv-loop
-    μ-loop
-    loop-holds
-    read-requires
-    step-requires
-    add-k
-    loop-less
-    loop-again
-    returns)
+reads-spec = tie.close (tie.spec Inv-loop μ-loop loop-holds step-requires add-k loop-less loop-again returns)
