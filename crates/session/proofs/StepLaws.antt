@@ -8,6 +8,8 @@ use native.Mathlib.Omega.{arith}
 use lib.Dec.{lit<}
 use lib.ListN.{getD, drop}
 use borrow.Author.Tests.{eq-eqb}
+use Rattle.store.specs.declared.Range.{Range}
+use Rattle.players.specs.declared.Step.{Step}
 use Rattle.players.specs.Kinds.{stands, last-kind, map-of, kind-and-fields, kind, step-of, spread, Fits}
 use Rattle.players.proofs.KindLaws.{kind-map, fields-made, kind-made, fits-by}
 use Rattle.session.specs.Layout.{widths, fields}
@@ -17,6 +19,23 @@ use Rattle.session.proofs.FieldLaws.{count-fields}
 -- a kind that is none before n is none before n + 1
 pub beyond : (n k : ℕ) → n ≤ k → (k ≡ n → ⊥) → suc n ≤ k
 beyond n k h e = omega arith
+
+-- a step of the kind m with the fields that stand in the bytes is that of the kind k, where k is m
+pub of-kind : (m : ℕ) {k : ℕ} (s : List ℕ) {x : Step} → k ≡ m → x ≡ step-of m (fields widths (map-of m) s 1) → x ≡ step-of k (fields widths (map-of k) s 1)
+of-kind m s e h = rw e h
+
+-- a step is known by its fields, a range by its ends
+pub with-range : (f : Range → Step) (r : Range) {lo hi : ℕ} → r .low ≡ lo → r .high ≡ hi → f r ≡ f (record { low = lo; high = hi })
+with-range f r a b = rw (← a, ← b)
+
+pub with-player : (f : ℕ → Range → Step) (r : Range) {p q lo hi : ℕ} → p ≡ q → r .low ≡ lo → r .high ≡ hi → f p r ≡ f q (record { low = lo; high = hi })
+with-player f r e a b = rw (← e, ← a, ← b)
+
+pub with-two : (f : ℕ → ℕ → Step) {p q d e : ℕ} → p ≡ q → d ≡ e → f p d ≡ f q e
+with-two f a b = rw (← a, ← b)
+
+pub with-three : (f : ℕ → ℕ → ℕ → Step) {p q d e v w : ℕ} → p ≡ q → d ≡ e → v ≡ w → f p d v ≡ f q e w
+with-three f a b c = rw (← a, ← b, ← c)
 
 -- ---- the third of the numbers that are read is a byte
 

@@ -47,6 +47,10 @@ module _ {t : List ℕ} {s : State} (o : Ok s) (y : t ≡ tableOf s) where
 pub next-fits : (n : ℕ) → n < 4000000 → Fits w32 (n + 1)
 next-fits n h = fits-under w32 (n + 1) 4000001 (omega arith) tt
 
+-- a player that is not above the last is one
+pub is-player : (p : ℕ) → p ≤ 7 → p < 8
+is-player p h = omega arith
+
 -- ---- 4 read
 
 module _ (t : List ℕ) (l : length t ≡ players-words) (p e : ℕ) where

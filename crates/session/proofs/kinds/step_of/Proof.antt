@@ -1,10 +1,12 @@
 -- `session::kinds::step_of` meets its contract: an arm a kind.
 -- Assumes nothing.
+use mathlib.Core.Path.{ap}
 use native.Mathlib.Nat.{le-antisymm}
+use Rattle.players.specs.declared.Step.the-variants.{Assign, Release, RequestGuard, Read, Write, Deliver, Respond, Abandon, Lose, Split, Merge, RestartTablet, RestartPlayer}
 use Rattle.players.specs.Kinds.{map-of, step-of}
 use Rattle.session.specs.Layout.{fields}
 use borrow.Author.Needs.{needs}
-use Rattle.session.proofs.StepLaws.{beyond}
+use Rattle.session.proofs.StepLaws.{beyond, of-kind, with-range, with-player, with-two, with-three}
 use Rattle.session.proofs.kinds.step_of.Statement.{statement}
 use Rattle.session.proofs.kinds.step_of.Tie as tie
 
@@ -64,51 +66,59 @@ byte-at-requires-10 c κs = search needs
 
 returns : tie.Need-returns
 unfolding step-of map-of fields
-returns c = rw (c .before .before .match .keys1, c .before .byte-at .ensures, c .range-at .ensures .0, c .range-at .ensures .1)
+returns c =
+    let r = c .range-at in
+    of-kind 1 (c .before .before .before .before .args .part .now) (c .before .before .match .keys1) (with-player Assign (r .result) (c .before .byte-at .ensures) (r .ensures .0) (r .ensures .1))
 
 returns-2 : tie.Need-returns-2
 unfolding step-of map-of fields
-returns-2 c = rw (c .before .match .keys2, c .range-at2 .ensures .0, c .range-at2 .ensures .1)
+returns-2 c =
+    let r = c .range-at2 in
+    of-kind 2 (c .before .before .before .args .part .now) (c .before .match .keys2) (with-range Release (r .result) (r .ensures .0) (r .ensures .1))
 
 returns-3 : tie.Need-returns-3
 unfolding step-of map-of fields
-returns-3 c = rw (c .before .before .match .keys3, c .before .byte-at2 .ensures, c .range-at3 .ensures .0, c .range-at3 .ensures .1)
+returns-3 c =
+    let r = c .range-at3 in
+    of-kind 3 (c .before .before .before .before .args .part .now) (c .before .before .match .keys3) (with-player RequestGuard (r .result) (c .before .byte-at2 .ensures) (r .ensures .0) (r .ensures .1))
 
 returns-4 : tie.Need-returns-4
 unfolding step-of map-of fields
-returns-4 c = rw (c .before .before .match .keys4, c .before .byte-at3 .ensures, c .byte-at4 .ensures)
+returns-4 c = of-kind 4 (c .before .before .before .before .args .part .now) (c .before .before .match .keys4) (with-two Read (c .before .byte-at3 .ensures) (c .byte-at4 .ensures))
 
 returns-5 : tie.Need-returns-5
 unfolding step-of map-of fields
-returns-5 c = rw (c .before .before .before .match .keys5, c .before .before .byte-at5 .ensures, c .before .byte-at6 .ensures, c .word32 .ensures)
+returns-5 c =
+    of-kind 5 (c .before .before .before .before .before .args .part .now) (c .before .before .before .match .keys5)
+    (with-three Write (c .before .before .byte-at5 .ensures) (c .before .byte-at6 .ensures) (c .word32 .ensures))
 
 returns-6 : tie.Need-returns-6
 unfolding step-of map-of fields
-returns-6 c = rw (c .before .match .keys6, c .word322 .ensures)
+returns-6 c = of-kind 6 (c .before .before .before .args .part .now) (c .before .match .keys6) (ap Deliver (c .word322 .ensures))
 
 returns-7 : tie.Need-returns-7
 unfolding step-of map-of fields
-returns-7 c = rw (c .before .match .keys7, c .word323 .ensures)
+returns-7 c = of-kind 7 (c .before .before .before .args .part .now) (c .before .match .keys7) (ap Respond (c .word323 .ensures))
 
 returns-8 : tie.Need-returns-8
 unfolding step-of map-of fields
-returns-8 c = rw (c .before .match .keys8, c .word324 .ensures)
+returns-8 c = of-kind 8 (c .before .before .before .args .part .now) (c .before .match .keys8) (ap Abandon (c .word324 .ensures))
 
 returns-9 : tie.Need-returns-9
 unfolding step-of map-of fields
-returns-9 c = rw (c .before .match .keys9, c .word325 .ensures)
+returns-9 c = of-kind 9 (c .before .before .before .args .part .now) (c .before .match .keys9) (ap Lose (c .word325 .ensures))
 
 returns-10 : tie.Need-returns-10
 unfolding step-of map-of fields
-returns-10 c = rw (c .before .match .keys10, c .byte-at7 .ensures)
+returns-10 c = of-kind 10 (c .before .before .before .args .part .now) (c .before .match .keys10) (ap Split (c .byte-at7 .ensures))
 
 returns-11 : tie.Need-returns-11
 unfolding step-of map-of fields
-returns-11 c = rw (c .before .match .keys11, c .byte-at8 .ensures)
+returns-11 c = of-kind 11 (c .before .before .before .args .part .now) (c .before .match .keys11) (ap Merge (c .byte-at8 .ensures))
 
 returns-12 : tie.Need-returns-12
 unfolding step-of map-of fields
-returns-12 c = rw (c .before .match .keys12, c .byte-at9 .ensures)
+returns-12 c = of-kind 12 (c .before .before .before .args .part .now) (c .before .match .keys12) (ap RestartTablet (c .byte-at9 .ensures))
 
 returns-13 : tie.Need-returns-13
 unfolding step-of map-of fields
@@ -138,7 +148,7 @@ returns-13 c =
     let b10 = beyond 10 k b9 (r10 .1) in
     let b11 = beyond 11 k b10 (r11 .1) in
     let b12 = beyond 12 k b11 (r12 .1) in
-    rw (le-antisymm (c .before .before .before .pre .1) b12, c .byte-at10 .ensures)
+    of-kind 13 (c .before .before .before .args .part .now) (le-antisymm (c .before .before .before .pre .1) b12) (ap RestartPlayer (c .byte-at10 .ensures))
 
 pub step-of-spec : {M : Type 1} → statement M
 step-of-spec =

@@ -4,7 +4,7 @@ use mathlib.Core.Path.{sym, _∙_}
 use native.Mathlib.Omega.{arith}
 use borrow.Author.Needs.{needs}
 use borrow.Author.Tests.{not-true, not-false}
-use Rattle.steps.proofs.IssuingLaws.{request-player, request-empty, request-high, request-owner, request-again, request-full, request-spent, next-fits, request-done}
+use Rattle.steps.proofs.IssuingLaws.{is-player, request-player, request-empty, request-high, request-owner, request-again, request-full, request-spent, next-fits, request-done}
 use Rattle.steps.proofs.issuing.request_guard.Statement.{statement}
 use Rattle.steps.proofs.issuing.request_guard.Tie as tie
 
@@ -55,8 +55,13 @@ same-length c = search needs
 
 returns-4 : tie.Need-returns-4
 returns-4 c =
-    let a = c .before .before .before .before .before .before .before .before .before .before .args in
-    request-owner (a .players .now) (c .before .before .before .before .before .before .before .before .before .before .pre) (a .player) (a .range) (omega arith) (omega arith) (omega arith) (sym (not-true _ (c .before .if4 .taken)) ∙ c .before .before .all-are .ensures) _ (c .refuse4 .ensures)
+    let e4 = c .before in
+    let e3 = e4 .before .before .before in
+    let e2 = e3 .before in
+    let e1 = e2 .before .before .before in
+    let x = e1 .before .before in
+    let a = x .args in
+    request-owner (a .players .now) (x .pre) (a .player) (a .range) (is-player _ (e1 .if1 .left)) (e2 .if2 .left) (e3 .if3 .left) (sym (not-true _ (e4 .if4 .taken)) ∙ e4 .before .all-are .ensures) _ (c .refuse4 .ensures)
 
 sub-scan : tie.Need-sub-scan
 sub-scan c = search needs
@@ -80,9 +85,12 @@ returns-5 : tie.Need-returns-5
 returns-5 c =
     let s = c .before .before .before .before in
     let e4 = s .before .before in
-    let x = e4 .before .before .before .before .before .before .before .before .before in
+    let e3 = e4 .before .before .before in
+    let e2 = e3 .before in
+    let e1 = e2 .before .before .before in
+    let x = e1 .before .before in
     let a = x .args in
-    request-again (a .players .now) (x .pre) (a .player) (a .range) (omega arith) (omega arith) (omega arith) (sym (not-false _ (e4 .if4 .left)) ∙ e4 .before .all-are .ensures) _ _ (s .scan .ensures) (c .before .if5 .taken) _ (c .refuse5 .ensures)
+    request-again (a .players .now) (x .pre) (a .player) (a .range) (is-player _ (e1 .if1 .left)) (e2 .if2 .left) (e3 .if3 .left) (sym (not-false _ (e4 .if4 .left)) ∙ e4 .before .all-are .ensures) _ _ (s .scan .ensures) (c .before .if5 .taken) _ (c .refuse5 .ensures)
 
 refuse-requires-6 : tie.Need-refuse-requires-6
 refuse-requires-6 c κs = search needs
@@ -94,9 +102,12 @@ returns-6 : tie.Need-returns-6
 returns-6 c =
     let s = c .before .before .before .before .before .before in
     let e4 = s .before .before in
-    let x = e4 .before .before .before .before .before .before .before .before .before in
+    let e3 = e4 .before .before .before in
+    let e2 = e3 .before in
+    let e1 = e2 .before .before .before in
+    let x = e1 .before .before in
     let a = x .args in
-    request-full (a .players .now) (x .pre) (a .player) (a .range) (omega arith) (omega arith) (omega arith) (sym (not-false _ (e4 .if4 .left)) ∙ e4 .before .all-are .ensures) _ _ (s .scan .ensures) (c .before .before .before .if5 .left) (omega arith) _ (c .refuse6 .ensures)
+    request-full (a .players .now) (x .pre) (a .player) (a .range) (is-player _ (e1 .if1 .left)) (e2 .if2 .left) (e3 .if3 .left) (sym (not-false _ (e4 .if4 .left)) ∙ e4 .before .all-are .ensures) _ _ (s .scan .ensures) (c .before .before .before .if5 .left) (c .before .if6 .taken) _ (c .refuse6 .ensures)
 
 slice-read-last : tie.Need-slice-read-last
 slice-read-last c = search needs
@@ -111,9 +122,12 @@ returns-7 : tie.Need-returns-7
 returns-7 c =
     let s = c .before .before .before .before .before .before .before .before in
     let e4 = s .before .before in
-    let x = e4 .before .before .before .before .before .before .before .before .before in
+    let e3 = e4 .before .before .before in
+    let e2 = e3 .before in
+    let e1 = e2 .before .before .before in
+    let x = e1 .before .before in
     let a = x .args in
-    request-spent (a .players .now) (x .pre) (a .player) (a .range) (omega arith) (omega arith) (omega arith) (sym (not-false _ (e4 .if4 .left)) ∙ e4 .before .all-are .ensures) _ _ (s .scan .ensures) (c .before .before .before .before .before .if5 .left) (omega arith) (omega arith) _ (c .refuse7 .ensures)
+    request-spent (a .players .now) (x .pre) (a .player) (a .range) (is-player _ (e1 .if1 .left)) (e2 .if2 .left) (e3 .if3 .left) (sym (not-false _ (e4 .if4 .left)) ∙ e4 .before .all-are .ensures) _ _ (s .scan .ensures) (c .before .before .before .before .before .if5 .left) (c .before .before .before .if6 .left) (c .before .if7 .taken) _ (c .refuse7 .ensures)
 
 mul-i : tie.Need-mul-i
 mul-i c = search needs
@@ -157,7 +171,7 @@ returns-8 c =
     let e1 = e2 .before .before .before in
     let x = e1 .before .before in
     let a = x .args in
-    request-done (a .players .now) (x .pre) (a .player) (a .range) (omega (arith, e1 .if1 .left)) (omega (arith, e2 .if2 .left)) (omega (arith, e3 .if3 .left)) (sym (not-false _ (e4 .if4 .left)) ∙ e4 .before .all-are .ensures) _ _ (s .scan .ensures) (e5 .if5 .left) (omega (arith, e6 .if6 .left)) (omega (arith, e7 .if7 .left))
+    request-done (a .players .now) (x .pre) (a .player) (a .range) (is-player _ (e1 .if1 .left)) (e2 .if2 .left) (e3 .if3 .left) (sym (not-false _ (e4 .if4 .left)) ∙ e4 .before .all-are .ensures) _ _ (s .scan .ensures) (e5 .if5 .left) (e6 .if6 .left) (e7 .if7 .left)
     _ (c .before .before .before .before .before .before .before .before .clear .ensures) _ (c .before .before .before .before .for-guard .ensures) _ (c .before .before .before .add .ensures) _ (c .issued .ensures)
 
 pub request-guard-spec : {M : Type 1} → statement M
