@@ -47,20 +47,17 @@ fn step_of(n: [u32; 6]) -> Decoded {
     })
 }
 
-// Takes a step.
-fn take(n: [u32; 6], store: &mut [u32; STORE], players: &mut [u32; PLAYERS]) {
+// Takes a step; where the tables are to be compared, says whether each is what it was.
+fn take(n: [u32; 6], compared: bool, store: &mut [u32; STORE], players: &mut [u32; PLAYERS]) {
     let found = step_of(n);
     match found {
-        Decoded::Record { step, length } => trial::step(store, players, step),
-        Decoded::Refused(why) => show::say(b"no step\n"),
-    }
-}
-
-// Takes a step, and says whether each table is what it was.
-fn keep(n: [u32; 6], store: &mut [u32; STORE], players: &mut [u32; PLAYERS]) {
-    let found = step_of(n);
-    match found {
-        Decoded::Record { step, length } => trial::same_step(store, players, step),
+        Decoded::Record { step, length } => {
+            if compared {
+                trial::same_step(store, players, step);
+            } else {
+                trial::step(store, players, step);
+            }
+        }
         Decoded::Refused(why) => show::say(b"no step\n"),
     }
 }
@@ -71,8 +68,8 @@ fn call(line: Line, store: &mut [u32; STORE], players: &mut [u32; PLAYERS]) {
     let n = line.numbers;
     match first {
         FRESH => trial::fresh(store, players),
-        TAKE => take(n, store, players),
-        KEEP => keep(n, store, players),
+        TAKE => take(n, false, store, players),
+        KEEP => take(n, true, store, players),
         READS => trial::reads(store, players, n[0]),
         STORE_WORD => trial::put(store, n[0], n[1]),
         PLAYERS_WORD => trial::put(players, n[0], n[1]),

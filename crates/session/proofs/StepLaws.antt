@@ -25,17 +25,17 @@ pub of-kind : (m : ℕ) {k : ℕ} (s : List ℕ) {x : Step} → k ≡ m → x �
 of-kind m s e h = rw e h
 
 -- a step is known by its fields, a range by its ends
-pub with-range : (f : Range → Step) (r : Range) {lo hi : ℕ} → r .low ≡ lo → r .high ≡ hi → f r ≡ f (record { low = lo; high = hi })
-with-range f r a b = rw (← a, ← b)
+pub by-range : (f : Range → Step) (r : Range) {lo hi : ℕ} → r .low ≡ lo → r .high ≡ hi → f r ≡ f (record { low = lo; high = hi })
+by-range f r a b = rw (← a, ← b)
 
-pub with-player : (f : ℕ → Range → Step) (r : Range) {p q lo hi : ℕ} → p ≡ q → r .low ≡ lo → r .high ≡ hi → f p r ≡ f q (record { low = lo; high = hi })
-with-player f r e a b = rw (← e, ← a, ← b)
+pub by-player-and-range : (f : ℕ → Range → Step) (r : Range) {p q lo hi : ℕ} → p ≡ q → r .low ≡ lo → r .high ≡ hi → f p r ≡ f q (record { low = lo; high = hi })
+by-player-and-range f r e a b = rw (← e, ← a, ← b)
 
-pub with-two : (f : ℕ → ℕ → Step) {p q d e : ℕ} → p ≡ q → d ≡ e → f p d ≡ f q e
-with-two f a b = rw (← a, ← b)
+pub by-two : (f : ℕ → ℕ → Step) {p q d e : ℕ} → p ≡ q → d ≡ e → f p d ≡ f q e
+by-two f a b = rw (← a, ← b)
 
-pub with-three : (f : ℕ → ℕ → ℕ → Step) {p q d e v w : ℕ} → p ≡ q → d ≡ e → v ≡ w → f p d v ≡ f q e w
-with-three f a b c = rw (← a, ← b, ← c)
+pub by-three : (f : ℕ → ℕ → ℕ → Step) {p q d e v w : ℕ} → p ≡ q → d ≡ e → v ≡ w → f p d v ≡ f q e w
+by-three f a b c = rw (← a, ← b, ← c)
 
 -- ---- the third of the numbers that are read is a byte
 

@@ -6,7 +6,7 @@ use Rattle.players.specs.declared.Step.the-variants.{Assign, Release, RequestGu
 use Rattle.players.specs.Kinds.{map-of, step-of}
 use Rattle.session.specs.Layout.{fields}
 use borrow.Author.Needs.{needs}
-use Rattle.session.proofs.StepLaws.{beyond, of-kind, with-range, with-player, with-two, with-three}
+use Rattle.session.proofs.StepLaws.{beyond, of-kind, by-range, by-player-and-range, by-two, by-three}
 use Rattle.session.proofs.kinds.step_of.Statement.{statement}
 use Rattle.session.proofs.kinds.step_of.Tie as tie
 
@@ -68,29 +68,29 @@ returns : tie.Need-returns
 unfolding step-of map-of fields
 returns c =
     let r = c .range-at in
-    of-kind 1 (c .before .before .before .before .args .part .now) (c .before .before .match .keys1) (with-player Assign (r .result) (c .before .byte-at .ensures) (r .ensures .0) (r .ensures .1))
+    of-kind 1 (c .before .before .before .before .args .part .now) (c .before .before .match .keys1) (by-player-and-range Assign (r .result) (c .before .byte-at .ensures) (r .ensures .0) (r .ensures .1))
 
 returns-2 : tie.Need-returns-2
 unfolding step-of map-of fields
 returns-2 c =
     let r = c .range-at2 in
-    of-kind 2 (c .before .before .before .args .part .now) (c .before .match .keys2) (with-range Release (r .result) (r .ensures .0) (r .ensures .1))
+    of-kind 2 (c .before .before .before .args .part .now) (c .before .match .keys2) (by-range Release (r .result) (r .ensures .0) (r .ensures .1))
 
 returns-3 : tie.Need-returns-3
 unfolding step-of map-of fields
 returns-3 c =
     let r = c .range-at3 in
-    of-kind 3 (c .before .before .before .before .args .part .now) (c .before .before .match .keys3) (with-player RequestGuard (r .result) (c .before .byte-at2 .ensures) (r .ensures .0) (r .ensures .1))
+    of-kind 3 (c .before .before .before .before .args .part .now) (c .before .before .match .keys3) (by-player-and-range RequestGuard (r .result) (c .before .byte-at2 .ensures) (r .ensures .0) (r .ensures .1))
 
 returns-4 : tie.Need-returns-4
 unfolding step-of map-of fields
-returns-4 c = of-kind 4 (c .before .before .before .before .args .part .now) (c .before .before .match .keys4) (with-two Read (c .before .byte-at3 .ensures) (c .byte-at4 .ensures))
+returns-4 c = of-kind 4 (c .before .before .before .before .args .part .now) (c .before .before .match .keys4) (by-two Read (c .before .byte-at3 .ensures) (c .byte-at4 .ensures))
 
 returns-5 : tie.Need-returns-5
 unfolding step-of map-of fields
 returns-5 c =
     of-kind 5 (c .before .before .before .before .before .args .part .now) (c .before .before .before .match .keys5)
-    (with-three Write (c .before .before .byte-at5 .ensures) (c .before .byte-at6 .ensures) (c .word32 .ensures))
+    (by-three Write (c .before .before .byte-at5 .ensures) (c .before .byte-at6 .ensures) (c .word32 .ensures))
 
 returns-6 : tie.Need-returns-6
 unfolding step-of map-of fields
