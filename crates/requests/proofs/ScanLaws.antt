@@ -110,6 +110,10 @@ numbers-from f n k (r ∷ rs) =
 pub finds : (f : Fit) (n : ℕ) (w : List ℕ) (r : Found) → r ≡ found f n w → Finds f n w r
 finds f n w r e = record { answer = e; numbered = ap numbers e ∙ numbers-from f n 0 (requestsOf w) ∙ rw zero-add }
 
+-- the answer in its case; the fit is given, so that a search for another is refused without computing either
+pub found-as : (f : Fit) {n : ℕ} {w : List ℕ} {a r : Found} → Finds f n w a → r ≡ a → r ≡ found f n w
+found-as f x e = e ∙ x .answer
+
 -- ---- a count, with a test
 
 module _ (f : Request → Bool) (w : List ℕ) where

@@ -3,6 +3,7 @@
 use mathlib.Core.Path.{sym, _∙_}
 use borrow.Author.Needs.{needs}
 use Rattle.requests.specs.declared.Fit.the-variants.{Pending}
+use Rattle.requests.proofs.ScanLaws.{found-as}
 use Rattle.requests.proofs.RegionLaws.{found-fits}
 use Rattle.players.specs.Rules.{abandon}
 use Rattle.steps.proofs.LeavingLaws.{unfit-moves, abandon-other, abandon-write}
@@ -45,7 +46,7 @@ returns c =
     let f = z .before .before .before in
     let y = f .before .before in
     let x = y .before .before .before .before in
-    abandon-other (x .args .serial) (x .args .players .now) (x .pre) _ _ (sym (f .found .given .1) ∙ y .find .ensures .answer) _ (z .give-up .ensures) (c .before .if1 .taken) _ (c .done .ensures)
+    abandon-other (x .args .serial) (x .args .players .now) (x .pre) _ _ (found-as Pending (y .find .ensures) (sym (f .found .given .1))) _ (z .give-up .ensures) (c .before .if1 .taken) _ (c .done .ensures)
 
 drop-guard-requires : tie.Need-drop-guard-requires
 drop-guard-requires c κs =
@@ -53,7 +54,7 @@ drop-guard-requires c κs =
     let f = z .before .before .before in
     let y = f .before .before in
     let x = y .before .before .before .before in
-    (z .give-up .kept .0 ∙ x .pre, found-fits Pending (x .args .serial) _ _ _ (sym (f .found .given .1) ∙ y .find .ensures .answer) .player)
+    (z .give-up .kept .0 ∙ x .pre, found-fits Pending (x .args .serial) _ _ _ (found-as Pending (y .find .ensures) (sym (f .found .given .1))) .player)
 
 done-requires-2 : tie.Need-done-requires-2
 done-requires-2 c κs = search needs
@@ -65,7 +66,7 @@ returns-2 : tie.Need-returns-2
 returns-2 c =
     let y = c .before .before .before in
     let x = y .before .before .before .before in
-    unfit-moves Pending (x .args .serial) abandon (x .args .players .now) (x .pre) (sym (c .before .enum-told .given .1) ∙ y .find .ensures .answer) _ (c .refuse .ensures)
+    unfit-moves Pending (x .args .serial) abandon (x .args .players .now) (x .pre) (found-as Pending (y .find .ensures) (sym (c .before .enum-told .given .1))) _ (c .refuse .ensures)
 
 same-length-3 : tie.Need-same-length-3
 same-length-3 c = search needs
@@ -78,7 +79,7 @@ returns-3 c =
     let f = z .before .before .before in
     let y = f .before .before in
     let x = y .before .before .before .before in
-    let h = sym (f .found .given .1) ∙ y .find .ensures .answer in
+    let h = found-as Pending (y .find .ensures) (sym (f .found .given .1)) in
     abandon-write (x .args .serial) (x .args .players .now) (x .pre) _ _ h _ (z .give-up .ensures) (e .if1 .left) (found-fits Pending (x .args .serial) _ _ _ h .player) _ (d .drop-guard .ensures) _ (c .done2 .ensures)
 
 pub abandon-spec : {M : Type 1} → statement M

@@ -1,8 +1,9 @@
 -- `steps::leaving::lose` meets its contract.
 -- Assumes nothing.
-use mathlib.Core.Path.{sym, _∙_}
+use mathlib.Core.Path.{sym}
 use borrow.Author.Needs.{needs}
 use Rattle.requests.specs.declared.Fit.the-variants.{Abandoned}
+use Rattle.requests.proofs.ScanLaws.{found-as}
 use Rattle.players.specs.Rules.{lose}
 use Rattle.steps.proofs.LeavingLaws.{unfit-moves, lose-moves}
 use Rattle.steps.proofs.leaving.lose.Statement.{statement}
@@ -51,7 +52,7 @@ returns : tie.Need-returns
 returns c =
     let y = c .before .before .before in
     let x = y .before .before .before .before in
-    unfit-moves Abandoned (x .args .serial) lose (x .args .players .now) (x .pre) (sym (c .before .enum-told .given .1) ∙ y .find .ensures .answer) _ (c .refuse .ensures)
+    unfit-moves Abandoned (x .args .serial) lose (x .args .players .now) (x .pre) (found-as Abandoned (y .find .ensures) (sym (c .before .enum-told .given .1))) _ (c .refuse .ensures)
 
 same-length-2 : tie.Need-same-length-2
 same-length-2 c = search needs
@@ -62,7 +63,7 @@ returns-2 c =
     let f = z .before .before .before in
     let y = f .before .before in
     let x = y .before .before .before .before in
-    lose-moves (x .args .serial) (x .args .players .now) (x .pre) _ _ (sym (f .found .given .1) ∙ y .find .ensures .answer) _ (z .remove .ensures) _ (c .done .ensures)
+    lose-moves (x .args .serial) (x .args .players .now) (x .pre) _ _ (found-as Abandoned (y .find .ensures) (sym (f .found .given .1))) _ (z .remove .ensures) _ (c .done .ensures)
 
 pub lose-spec : {M : Type 1} → statement M
 lose-spec =

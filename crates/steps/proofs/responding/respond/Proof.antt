@@ -2,6 +2,7 @@
 -- Assumes nothing.
 use mathlib.Core.Path.{sym, _∙_}
 use Rattle.requests.specs.declared.Fit.the-variants.{Answerable}
+use Rattle.requests.proofs.ScanLaws.{found-as}
 use Rattle.requests.proofs.RegionLaws.{found-fits}
 use Rattle.players.specs.Rules.{respond}
 use Rattle.steps.proofs.LeavingLaws.{unfit-moves}
@@ -48,7 +49,7 @@ respond-to-requires c κs =
     let f = c .before .before .before .before .before .before in
     let y = f .before .before in
     let x = y .before .before .before .before in
-    (c .before .before .players2 .given .1 ∙ x .pre, found-fits Answerable (x .args .serial) _ _ _ (sym (f .found .given .1) ∙ y .find .ensures .answer) .player)
+    (c .before .before .players2 .given .1 ∙ x .pre, found-fits Answerable (x .args .serial) _ _ _ (found-as Answerable (y .find .ensures) (sym (f .found .given .1))) .player)
 
 same-length : tie.Need-same-length
 same-length c = search needs
@@ -57,7 +58,7 @@ returns : tie.Need-returns
 returns c =
     let y = c .before .before .before in
     let x = y .before .before .before .before in
-    unfit-moves Answerable (x .args .serial) respond (x .args .players .now) (x .pre) (sym (c .before .enum-told .given .1) ∙ y .find .ensures .answer) _ (c .refuse .ensures)
+    unfit-moves Answerable (x .args .serial) respond (x .args .players .now) (x .pre) (found-as Answerable (y .find .ensures) (sym (c .before .enum-told .given .1))) _ (c .refuse .ensures)
 
 same-length-2 : tie.Need-same-length-2
 same-length-2 c = search needs
@@ -68,7 +69,7 @@ returns-2 c =
     let f = z .before .before .before in
     let y = f .before .before in
     let x = y .before .before .before .before in
-    respond-done (x .args .players .now) (x .pre) (x .args .serial) _ _ (sym (f .found .given .1) ∙ y .find .ensures .answer) _ (z .remove .ensures) _ _ (c .before .before .respond-to .ensures)
+    respond-done (x .args .players .now) (x .pre) (x .args .serial) _ _ (found-as Answerable (y .find .ensures) (sym (f .found .given .1))) _ (z .remove .ensures) _ _ (c .before .before .respond-to .ensures)
 
 pub respond-spec : {M : Type 1} → statement M
 respond-spec =

@@ -1,7 +1,9 @@
 -- `steps::store_steps::deliver` meets its contract.
 -- Assumes nothing.
-use mathlib.Core.Path.{sym, _∙_}
+use mathlib.Core.Path.{sym}
 use borrow.Author.Needs.{needs}
+use Rattle.requests.specs.declared.Fit.the-variants.{Undelivered}
+use Rattle.requests.proofs.ScanLaws.{found-as}
 use Rattle.steps.proofs.StoreStepLaws.{deliver-unfit, deliver-fit}
 use Rattle.steps.proofs.store_steps.deliver.Statement.{statement}
 use Rattle.steps.proofs.store_steps.deliver.Tie as tie
@@ -44,7 +46,7 @@ returns c =
     let y = c .before .before .before in
     let x = y .before .before .before .before .before in
     rw (c .refuse .ensures)
-    (deliver-unfit (x .args .store .now) (x .args .players .now) (x .pre .0) (x .pre .1) (x .args .serial) (sym (c .before .enum-told .given .1) ∙ y .find .ensures .answer))
+    (deliver-unfit (x .args .store .now) (x .args .players .now) (x .pre .0) (x .pre .1) (x .args .serial) (found-as Undelivered (y .find .ensures) (sym (c .before .enum-told .given .1))))
 
 same-length-2 : tie.Need-same-length-2
 same-length-2 c = search needs
@@ -59,7 +61,7 @@ returns-2 c =
     let f = p .before .before .before in
     let y = f .before .before in
     let x = y .before .before .before .before .before in
-    deliver-fit (x .args .store .now) (x .args .players .now) (x .pre .0) (x .pre .1) (x .args .serial) _ _ (sym (f .found .given .1) ∙ y .find .ensures .answer)
+    deliver-fit (x .args .store .now) (x .args .players .now) (x .pre .0) (x .pre .1) (x .args .serial) _ _ (found-as Undelivered (y .find .ensures) (sym (f .found .given .1)))
     _ _ _ _ (p .perform .ensures) (z .settle .ensures) (c .done .ensures)
 
 pub deliver-spec : {M : Type 1} → statement M
