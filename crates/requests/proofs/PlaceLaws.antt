@@ -6,12 +6,29 @@ use mathlib.Core.List.{List}
 use Prim.Native.Nat.{ℕ, suc, _+_, _-_, _*_, _%_, _≤_, _<_}
 use native.Mathlib.Nat.{add-zero}
 use native.Mathlib.Omega.{arith}
-use lib.Dec.{leb, ltb, eqb}
+use lib.Dec.{T, leb, ltb, eqb, lit<}
 use lib.ListN.{length, getD, drop}
 use lib.Seq.{getD-drop, drop-drop}
+use mir.Syntax.{w64}
+use mir.Val.{Fits}
 use borrow.Author.Tests.{eq-eqb, ne-eqb, le-leb, lt-leb, lt-ltb, le-ltb}
 use Rattle.store.specs.Table.{at-most}
 use Rattle.requests.specs.Region.{requestOf, requestAt, request-holds, words-fit, places-hold, valid}
+
+-- ---- where a word lies
+
+-- word i of place k: its number, and that of its first byte, are numbers of the machine, and it is a word of the region w
+pub record Lies (w : List ℕ) (k i : ℕ) : Type 0 where
+  pub index : Fits w64 (k * 12 + i)
+  pub offset : Fits w64 ((k * 12 + i) * 4)
+  pub inside : k * 12 + i < length w
+
+pub lies : (w : List ℕ) (k i : ℕ) → (k < 64) × (length w ≡ 768) → T (ltb i 12) → Lies w k i
+lies w k i (h, l) t =
+    let j : i < 12 = lit< t in
+    record { index = record { fits = omega arith }; offset = record { fits = omega arith }; inside = omega arith }
+
+-- ---- the words of a place
 
 module _ (w : List ℕ) (k : ℕ) where
   -- word i of place k

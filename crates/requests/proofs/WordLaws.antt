@@ -9,6 +9,8 @@ use native.Mathlib.Omega.{arith}
 use lib.ListN.{length, getD, take, drop, set, replicate, length-set, length-drop, length-append, drop-of-length-le, take-append-drop}
 use lib.Seq.{length-take-le, take-at, drop-append-add, getD-drop, take-suc, take-suc-set, take-all, take-set-le, drop-set-lt, drop-set-add, drop-drop}
 use borrow.Rule.Slice.PartMut.{putMid}
+use Rattle.requests.specs.declared.Request.{Request}
+use Rattle.requests.specs.Region.{bit, wordsOf}
 use Rattle.requests.specs.Calls.{over, closed}
 
 -- ---- `over`
@@ -80,7 +82,7 @@ over-set : (l : List ℕ) (i : ℕ) (vs : List ℕ) (v : ℕ) → set (over l i 
 over-set l i vs v = set-over (over l i vs) (i + length vs) v ∙ over-over l i vs (v ∷ [])
 
 -- twelve words, one by one
-pub sets-12 : (l : List ℕ) (b v₀ v₁ v₂ v₃ v₄ v₅ v₆ v₇ v₈ v₉ va vb : ℕ)
+sets-12 : (l : List ℕ) (b v₀ v₁ v₂ v₃ v₄ v₅ v₆ v₇ v₈ v₉ va vb : ℕ)
     → set (set (set (set (set (set (set (set (set (set (set (set l b v₀) (b + 1) v₁) (b + 2) v₂) (b + 3) v₃) (b + 4) v₄) (b + 5) v₅) (b + 6) v₆) (b + 7) v₇) (b + 8) v₈) (b + 9) v₉) (b + 10) va) (b + 11) vb
     ≡ over l b (v₀ ∷ v₁ ∷ v₂ ∷ v₃ ∷ v₄ ∷ v₅ ∷ v₆ ∷ v₇ ∷ v₈ ∷ v₉ ∷ va ∷ vb ∷ [])
 sets-12 l b v₀ v₁ v₂ v₃ v₄ v₅ v₆ v₇ v₈ v₉ va vb =
@@ -98,6 +100,25 @@ sets-12 l b v₀ v₁ v₂ v₃ v₄ v₅ v₆ v₇ v₈ v₉ va vb =
       over-set l b (v₀ ∷ v₁ ∷ v₂ ∷ v₃ ∷ v₄ ∷ v₅ ∷ v₆ ∷ v₇ ∷ v₈ ∷ v₉ ∷ []) va,
       over-set l b (v₀ ∷ v₁ ∷ v₂ ∷ v₃ ∷ v₄ ∷ v₅ ∷ v₆ ∷ v₇ ∷ v₈ ∷ v₉ ∷ va ∷ []) vb,
     )
+
+-- words written from word b + i on, one by one
+abbrev pub puts : List ℕ → ℕ → ℕ → List ℕ → List ℕ
+puts l b i [] = l
+puts l b i (v ∷ vs) = puts (set l (b + i) v) b (suc i) vs
+
+-- the words of a request, one by one, where o, d and a are the words of its marks
+pub put-place : (l : List ℕ) (b : ℕ) (r : Request) (o d a : ℕ) → o ≡ bit (r .overlapped) → d ≡ bit (r .delivered) → a ≡ bit (r .abandoned)
+    → puts (set l b (r .serial)) b 1 (r .player ∷ r .kind ∷ r .low ∷ r .high ∷ r .value ∷ r .guard ∷ o ∷ d ∷ a ∷ r .first ∷ r .second ∷ []) ≡ over l b (wordsOf r)
+put-place l b r o d a e₁ e₂ e₃ =
+    rw (e₁, e₂, e₃) (sets-12 l b (r .serial) (r .player) (r .kind) (r .low) (r .high) (r .value) (r .guard) (bit (r .overlapped)) (bit (r .delivered)) (bit (r .abandoned)) (r .first) (r .second))
+
+-- a word written at b, and more after it, leave the list as long as it was
+length-puts : (l : List ℕ) (b i : ℕ) (vs : List ℕ) → length (puts l b i vs) ≡ length l
+length-puts l b i [] = refl
+length-puts l b i (v ∷ vs) = length-puts (set l (b + i) v) b (suc i) vs ∙ length-set l (b + i) v
+
+pub puts-long : (l : List ℕ) (b v : ℕ) (vs : List ℕ) → length (puts (set l b v) b 1 vs) ≡ length l
+puts-long l b v vs = length-puts (set l b v) b 1 vs ∙ length-set l b v
 
 -- ---- a run of words that fits
 

@@ -5,11 +5,11 @@ use mathlib.Core.Logic.{⊎-elim}
 use mathlib.Core.Bool.{Bool, true, false, cond}
 use mathlib.Core.List.{List, map}
 use Prim.Native.Nat.{ℕ, zero, suc, _+_, _-_, _*_, _≤_, _<_}
-use native.Mathlib.Nat.{add-suc}
+use native.Mathlib.Nat.{add-suc, le-of-lt}
 use native.Mathlib.Omega.{arith}
 use lib.Dec.{leb, eqb}
 use lib.ListN.{length, getD, take, drop, length-map}
-use mir.Syntax.{w32}
+use mir.Syntax.{w32, w64}
 use mir.Val.{Fits}
 use borrow.Author.Needs.{fits-under}
 use borrow.Author.Tests.{eq-eqb, ne-eqb, le-leb, lt-leb, lt-ltb, le-ltb, leb-false}
@@ -47,9 +47,26 @@ module _ {t : List ℕ} {s : State} (o : Ok s) (y : t ≡ tableOf s) where
 pub next-fits : (n : ℕ) → n < 4000000 → Fits w32 (n + 1)
 next-fits n h = fits-under w32 (n + 1) 4000001 (omega arith) tt
 
+-- a whole table has the word of the last serial
+pub has-last : {n : ℕ} → n ≡ players-words → 0 < n
+has-last h = omega arith
+
+-- and that of its last request
+pub has-requests : {n : ℕ} → n ≡ players-words → 9473 ≤ n
+has-requests h = omega arith
+
 -- a player that is not above the last is one
 pub is-player : (p : ℕ) → p ≤ 7 → p < 8
 is-player p h = omega arith
+
+-- the cell of an entry, in a player's row
+pub record Cell (p e : ℕ) : Type 0 where
+  pub row : Fits w64 (p * 256)
+  pub index : Fits w64 (p * 256 + e)
+  pub inside : p * 256 + e < 2048
+
+pub cell-of : (p e : ℕ) → p < 8 → e < 256 → Cell p e
+cell-of p e a b = record { row = record { fits = omega arith }; index = record { fits = omega arith }; inside = omega arith }
 
 -- ---- 4 read
 
@@ -196,57 +213,89 @@ module _ (t : List ℕ) (l : length t ≡ players-words) (p : ℕ) (g : Range) w
         pub request-owner : false ≡ all-are p (1 + g .low) (1 + g .high - (1 + g .low)) t → (r : Reply) → r ≡ refusal 29 → Moves a t r t
         request-owner b r er = refused a t l 29 r er (λ s o y. rw (lt-leb 8 p hp, lt-ltb (g .low) (g .high) hl, le-leb (g .high) 256 hh, owns-is s y false b))
 
-        module _ (b : true ≡ all-are p (1 + g .low) (1 + g .high - (1 + g .low)) t) (x : Scan) (c : List ℕ) (ec : pass x c ≡ passed (Requesting p g) (take 768 (drop 8705 t))) where
-          abbrev u : List ℕ
-          u = putMid 8705 768 t c
+-- the cells of a range of entries, in a player's row
+pub record Cells (p lo hi : ℕ) : Type 0 where
+  pub row : Fits w64 (p * 256)
+  pub first : Fits w64 (p * 256 + lo)
+  pub last : Fits w64 (p * 256 + hi)
+  pub ordered : p * 256 + lo ≤ p * 256 + hi
+  pub inside : p * 256 + hi ≤ 2048
 
-          same : u ≡ t
-          same = unmarked (Requesting p g) (λ _. refl) t ec
+pub cells-of : (p lo hi : ℕ) → p < 8 → lo < hi → hi ≤ 256 → Cells p lo hi
+cells-of p lo hi a b c =
+    record {
+      row = record { fits = omega arith };
+      first = record { fits = omega arith };
+      last = record { fits = omega arith };
+      ordered = omega arith;
+      inside = omega arith;
+    }
 
-          module _ (s : State) (o : Ok s) (y : t ≡ tableOf s) where
-            scan-of : x ≡ record { used = length (s .requests); hit = any (requesting p g) (s .requests) }
-            scan-of = scan-is o y (requesting p g) x (told (Requesting p g) (λ _. refl) t ec)
+-- a request that is asked for a range of entries, all of the player's
+pub record Asks (t : List ℕ) (p : ℕ) (g : Range) : Type 0 where
+  pub long : length t ≡ players-words
+  pub player : p < 8
+  pub some : g .low < g .high
+  pub within : g .high ≤ 256
+  pub own : true ≡ all-are p (1 + g .low) (1 + g .high - (1 + g .low)) t
 
-            hit-of : (d : Bool) → x .hit ≡ d → any (requesting p g) (s .requests) ≡ d
-            hit-of d ed = sym (ap (λ (i : Scan). i .hit) scan-of) ∙ ed
+module _ {t : List ℕ} {p : ℕ} {g : Range} (k : Asks t p g) {x : Scan} {c : List ℕ} (ec : pass x c ≡ passed (Requesting p g) (take 768 (drop 8705 t))) where
+  abbrev asked : State → Result
+  asked s = step s (RequestGuard p g)
 
-            used-of : x .used ≡ length (s .requests)
-            used-of = ap (λ (i : Scan). i .used) scan-of
+  owned-all : (s : State) → t ≡ tableOf s → all-entries (owns s p) (g .low) (g .high) ≡ true
+  owned-all s y = owns-is t (k .long) p g (k .player) (k .some) (k .within) s y true (k .own)
 
-          pub request-again : x .hit ≡ true → (r : Reply) → r ≡ refusal 31 → Moves a t r u
-          request-again d r er = rw same (refused a t l 31 r er (λ s o y. rw (lt-leb 8 p hp, lt-ltb (g .low) (g .high) hl, le-leb (g .high) 256 hh, owns-is s y true b, hit-of s o y true d)))
+  abbrev u : List ℕ
+  u = putMid 8705 768 t c
 
-          module _ (d : x .hit ≡ false) where
-            pub request-full : 64 ≤ x .used → (r : Reply) → r ≡ refusal 33 → Moves a t r u
-            request-full h r er =
-                rw same
-                (refused a t l 33 r er
-                (λ s o y.
-                let i = used-of s o y in
-                rw (lt-leb 8 p hp, lt-ltb (g .low) (g .high) hl, le-leb (g .high) 256 hh, owns-is s y true b, hit-of s o y false d, le-leb 64 (length (s .requests)) (omega arith))))
+  same : u ≡ t
+  same = unmarked (Requesting p g) (λ _. refl) t ec
 
-            module _ (h : x .used < 64) where
-              pub request-spent : 4000000 ≤ getD u 0 0 → (r : Reply) → r ≡ refusal 34 → Moves a t r u
-              request-spent k r er =
-                  rw same
-                  (refused a t l 34 r er
-                  (λ s o y.
-                  let i = used-of s o y in
-                  rw (lt-leb 8 p hp, lt-ltb (g .low) (g .high) hl, le-leb (g .high) 256 hh, owns-is s y true b, hit-of s o y false d, lt-leb 64 (length (s .requests)) (omega arith), spent-is o (same ∙ y) k)))
+  module _ (s : State) (o : Ok s) (y : t ≡ tableOf s) where
+    scan-of : x ≡ record { used = length (s .requests); hit = any (requesting p g) (s .requests) }
+    scan-of = scan-is o y (requesting p g) x (told (Requesting p g) (λ _. refl) t ec)
 
-              pub request-done : getD u 0 0 < 4000000 → (t₁ : List ℕ) → t₁ ≡ cleared (p * 256 + g .low) (p * 256 + g .high) u → (q : Request) → q ≡ new-request (getD u 0 0 + 1) p 3 (g .low) (g .high) 0 0 false
-                  → (t′ : List ℕ) → t′ ≡ added (x .used) q t₁ → (r : Reply) → r ≡ issued (getD u 0 0 + 1) → Moves a t r t′
-              request-done k t₁ e₁ q eq t′ et r er =
-                  moves a t l r t′
-                  (λ s o y.
-                  let m = last-is o (same ∙ y) in
-                  let i = used-of s o y in
-                  let lo = g .low in
-                  let hi = g .high in
-                  let pl = cleared-player lo hi (s .player p) in
-                  let s₁ = with-player s p pl in
-                  let y₁ : t₁ ≡ tableOf s₁ = e₁ ∙ ap (cleared (p * 256 + lo) (p * 256 + hi)) (same ∙ y) ∙ cleared-put s p hp lo hi (omega arith) hh pl (λ i _. refl) (λ i _. refl) in
-                  let f : a s ≡ request-guard s p g = rw (lt-leb 8 p hp, lt-ltb lo hi hl, le-leb hi 256 hh, owns-is s y true b, hit-of s o y false d, lt-leb 64 (length (s .requests)) (omega arith), left-is o (same ∙ y) k) in
-                  let j = new-request (s .last + 1) p 3 lo hi 0 0 false in
-                  let q-is : q ≡ j = eq ∙ rw m in
-                  rw f (er ∙ ap (λ (i : ℕ). issued (i + 1)) m, et ∙ rw (y₁, q-is) (added-state s₁ (x .used) j i (omega arith) refl)))
+    hit-of : (d : Bool) → x .hit ≡ d → any (requesting p g) (s .requests) ≡ d
+    hit-of d ed = sym (ap (λ (i : Scan). i .hit) scan-of) ∙ ed
+
+    used-of : x .used ≡ length (s .requests)
+    used-of = ap (λ (i : Scan). i .used) scan-of
+
+  pub request-again : x .hit ≡ true → (r : Reply) → r ≡ refusal 31 → Moves asked t r u
+  request-again d r er = rw same (refused asked t (k .long) 31 r er (λ s o y. rw (lt-leb 8 p (k .player), lt-ltb (g .low) (g .high) (k .some), le-leb (g .high) 256 (k .within), owned-all s y, hit-of s o y true d)))
+
+  module _ (d : x .hit ≡ false) where
+    pub request-full : 64 ≤ x .used → (r : Reply) → r ≡ refusal 33 → Moves asked t r u
+    request-full h r er =
+        rw same
+        (refused asked t (k .long) 33 r er
+        (λ s o y.
+        let i = used-of s o y in
+        rw (lt-leb 8 p (k .player), lt-ltb (g .low) (g .high) (k .some), le-leb (g .high) 256 (k .within), owned-all s y, hit-of s o y false d, le-leb 64 (length (s .requests)) (omega arith))))
+
+    module _ (h : x .used < 64) where
+      pub request-spent : 4000000 ≤ getD u 0 0 → (r : Reply) → r ≡ refusal 34 → Moves asked t r u
+      request-spent n r er =
+          rw same
+          (refused asked t (k .long) 34 r er
+          (λ s o y.
+          let i = used-of s o y in
+          rw (lt-leb 8 p (k .player), lt-ltb (g .low) (g .high) (k .some), le-leb (g .high) 256 (k .within), owned-all s y, hit-of s o y false d, lt-leb 64 (length (s .requests)) (omega arith), spent-is o (same ∙ y) n)))
+
+      pub request-done : getD u 0 0 < 4000000 → (t₁ : List ℕ) → t₁ ≡ cleared (p * 256 + g .low) (p * 256 + g .high) u → (q : Request) → q ≡ new-request (getD u 0 0 + 1) p 3 (g .low) (g .high) 0 0 false
+          → (t′ : List ℕ) → t′ ≡ added (x .used) q t₁ → (r : Reply) → r ≡ issued (getD u 0 0 + 1) → Moves asked t r t′
+      request-done n t₁ e₁ q eq t′ et r er =
+          moves asked t (k .long) r t′
+          (λ s o y.
+          let m = last-is o (same ∙ y) in
+          let i = used-of s o y in
+          let lo = g .low in
+          let hi = g .high in
+          let pl = cleared-player lo hi (s .player p) in
+          let s₁ = with-player s p pl in
+          let y₁ : t₁ ≡ tableOf s₁ = e₁ ∙ ap (cleared (p * 256 + lo) (p * 256 + hi)) (same ∙ y) ∙ cleared-put s p (k .player) lo hi (le-of-lt (k .some)) (k .within) pl (λ i _. refl) (λ i _. refl) in
+          let f : asked s ≡ request-guard s p g = rw (lt-leb 8 p (k .player), lt-ltb lo hi (k .some), le-leb hi 256 (k .within), owned-all s y, hit-of s o y false d, lt-leb 64 (length (s .requests)) (omega arith), left-is o (same ∙ y) n) in
+          let j = new-request (s .last + 1) p 3 lo hi 0 0 false in
+          let q-is : q ≡ j = eq ∙ rw m in
+          rw f (er ∙ ap (λ (i : ℕ). issued (i + 1)) m, et ∙ rw (y₁, q-is) (added-state s₁ (x .used) j i (omega arith) refl)))

@@ -6,9 +6,11 @@ use mathlib.Core.List.{List}
 use Prim.Native.Nat.{ℕ, suc, _+_, _-_, _*_, _≤_, _<_}
 use native.Mathlib.Numerals.{add-one}
 use native.Mathlib.Omega.{arith}
-use lib.Dec.{eqb}
+use lib.Dec.{T, leb, eqb, lit≤}
 use lib.ListN.{length, getD, take, drop, set, replicate, length-drop, length-replicate}
 use lib.Seq.{length-take-le}
+use mir.Syntax.{w64}
+use mir.Val.{Fits}
 use borrow.Author.Tests.{eq-eqb, ne-eqb, lt-ltb, le-ltb}
 use borrow.Rule.Slice.PartMut.{putMid, same-len-mid}
 use Rattle.steps.specs.InnerWords.{live-guard, hit, all-are, caching, filled, cleared, dropped}
@@ -80,6 +82,25 @@ pub length-filled : (b lo hi v : ℕ) (t : List ℕ) → lo ≤ hi → b + hi �
 length-filled b lo hi v t a h =
     let n : length (take (b + hi - (b + lo)) (drop (b + lo) t)) ≡ b + hi - (b + lo) = length-take-le (b + hi - (b + lo)) (drop (b + lo) t) (rw length-drop (omega arith)) in
     same-len-mid (b + lo) (b + hi - (b + lo)) t (replicate (b + hi - (b + lo)) v) (length-replicate (b + hi - (b + lo)) v ∙ sym n)
+
+-- the cells lo up to hi of a column of a table, which starts at b
+pub record Column (b lo hi : ℕ) : Type 0 where
+  pub from : Fits w64 (b + lo)
+  pub to : Fits w64 (b + hi)
+  pub offset : Fits w64 ((b + lo) * 4)
+  pub ordered : b + lo ≤ b + hi
+  pub inside : (n : ℕ) → n ≡ players-words → b + hi ≤ n
+
+pub column : (b lo hi : ℕ) → T (leb b 6657) → lo ≤ hi → hi ≤ 2048 → Column b lo hi
+column b lo hi t a h =
+    let k : b ≤ 6657 = lit≤ t in
+    record {
+      from = record { fits = omega arith };
+      to = record { fits = omega arith };
+      offset = record { fits = omega arith };
+      ordered = omega arith;
+      inside = λ n e. omega arith;
+    }
 
 -- the four parts that are cleared
 module _ (lo hi : ℕ) (t z₁ z₂ z₃ z₄ : List ℕ) (l : length t ≡ players-words) (a : lo ≤ hi) (h : hi ≤ 2048) where

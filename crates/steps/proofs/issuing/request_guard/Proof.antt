@@ -1,20 +1,47 @@
 -- `steps::issuing::request_guard` meets its contract: a case at each return.
 -- Assumes nothing.
-use mathlib.Core.Path.{sym, _∙_}
-use native.Mathlib.Omega.{arith}
+use mathlib.Core.Path.{_≡_, refl, sym, _∙_}
+use lib.Dec.{lit≤}
+use lib.ListN.{length}
 use borrow.Author.Needs.{needs}
 use borrow.Author.Tests.{not-true, not-false}
-use Rattle.steps.proofs.IssuingLaws.{is-player, request-player, request-empty, request-high, request-owner, request-again, request-full, request-spent, next-fits, request-done}
+use borrow.Rule.Slice.PartMut.{putMid}
+use Rattle.players.specs.Table.{players-words}
+use Rattle.steps.proofs.IssuingLaws.{Cells, cells-of, Asks, has-last, has-requests, is-player, request-player, request-empty, request-high, request-owner, request-again, request-full, request-spent, next-fits, request-done}
 use Rattle.steps.proofs.issuing.request_guard.Statement.{statement}
 use Rattle.steps.proofs.issuing.request_guard.Tie as tie
 
+-- what is known where the player's requests are looked up
+abbrev start : tie.Else4 → tie.Start
+start c = c .before .before .before .before .before .before .before .before .before
+
+asks : (c : tie.Else4) → Asks (start c .args .players .now) (start c .args .player) (start c .args .range)
+asks c =
+    let e3 = c .before .before .before in
+    let e2 = e3 .before in
+    let e1 = e2 .before .before .before in
+    record {
+      long = start c .pre;
+      player = is-player _ (e1 .if1 .left);
+      some = e2 .if2 .left;
+      within = e3 .if3 .left;
+      own = sym (not-false _ (c .if4 .left)) ∙ c .before .all-are .ensures;
+    }
+
+cells : (c : tie.Else4) → Cells (start c .args .player) (start c .args .range .low) (start c .args .range .high)
+cells c = let k = asks c in cells-of _ _ _ (k .player) (k .some) (k .within)
+
+-- the table is as long after they were
+whole : (c : tie.After-players) → length (putMid 8705 768 (start (c .before .before .before) .args .players .now) (c .before .scan .last .0)) ≡ players-words
+whole c = c .players .given .1 ∙ start (c .before .before .before) .pre
+
 refuse-requires : tie.Need-refuse-requires
-refuse-requires c κs = search needs
+refuse-requires c κs = tt
 
 returns : tie.Need-returns
 returns c =
     let a = c .before .before .before .args in
-    request-player (a .players .now) (c .before .before .before .pre) (a .player) (a .range) (omega arith) _ (c .refuse .ensures)
+    request-player (a .players .now) (c .before .before .before .pre) (a .player) (a .range) (c .before .if1 .taken) _ (c .refuse .ensures)
 
 cast-low : tie.Need-cast-low
 cast-low c = search needs
@@ -23,20 +50,25 @@ cast-high : tie.Need-cast-high
 cast-high c = search needs
 
 refuse-requires-2 : tie.Need-refuse-requires-2
-refuse-requires-2 c κs = search needs
+refuse-requires-2 c κs = tt
 
 returns-2 : tie.Need-returns-2
 returns-2 c =
-    let a = c .before .before .before .before .before .before .args in
-    request-empty (a .players .now) (c .before .before .before .before .before .before .pre) (a .player) (a .range) (omega arith) (omega arith) _ (c .refuse2 .ensures)
+    let e1 = c .before .before .before .before in
+    let x = e1 .before .before in
+    let a = x .args in
+    request-empty (a .players .now) (x .pre) (a .player) (a .range) (is-player _ (e1 .if1 .left)) (c .before .if2 .taken) _ (c .refuse2 .ensures)
 
 refuse-requires-3 : tie.Need-refuse-requires-3
-refuse-requires-3 c κs = search needs
+refuse-requires-3 c κs = tt
 
 returns-3 : tie.Need-returns-3
 returns-3 c =
-    let a = c .before .before .before .before .before .before .before .args in
-    request-high (a .players .now) (c .before .before .before .before .before .before .before .pre) (a .player) (a .range) (omega arith) (omega arith) (omega arith) _ (c .refuse3 .ensures)
+    let e2 = c .before .before in
+    let e1 = e2 .before .before .before in
+    let x = e1 .before .before in
+    let a = x .args in
+    request-high (a .players .now) (x .pre) (a .player) (a .range) (is-player _ (e1 .if1 .left)) (e2 .if2 .left) (c .before .if3 .taken) _ (c .refuse3 .ensures)
 
 add-all-are : tie.Need-add-all-are
 add-all-are c = search needs
@@ -48,10 +80,10 @@ all-are-requires : tie.Need-all-are-requires
 all-are-requires c κs = search needs
 
 refuse-requires-4 : tie.Need-refuse-requires-4
-refuse-requires-4 c κs = search needs
+refuse-requires-4 c κs = tt
 
 same-length : tie.Need-same-length
-same-length c = search needs
+same-length c = refl
 
 returns-4 : tie.Need-returns-4
 returns-4 c =
@@ -64,100 +96,85 @@ returns-4 c =
     request-owner (a .players .now) (x .pre) (a .player) (a .range) (is-player _ (e1 .if1 .left)) (e2 .if2 .left) (e3 .if3 .left) (sym (not-true _ (e4 .if4 .taken)) ∙ e4 .before .all-are .ensures) _ (c .refuse4 .ensures)
 
 sub-scan : tie.Need-sub-scan
-sub-scan c = search needs
+sub-scan c = lit≤ tt
 
 part-scan-start : tie.Need-part-scan-start
-part-scan-start c = search needs
+part-scan-start c = lit≤ tt
 
 part-scan-end : tie.Need-part-scan-end
-part-scan-end c = search needs
+part-scan-end c = has-requests (start c .pre)
 
 scan-requires : tie.Need-scan-requires
-scan-requires c κs = search needs
+scan-requires c κs = tt
 
 refuse-requires-5 : tie.Need-refuse-requires-5
-refuse-requires-5 c κs = search needs
+refuse-requires-5 c κs = tt
 
 same-length-2 : tie.Need-same-length-2
-same-length-2 c = search needs
+same-length-2 c = c .before .before .before .players .given .1
 
 returns-5 : tie.Need-returns-5
-returns-5 c =
-    let s = c .before .before .before .before in
-    let e4 = s .before .before in
-    let e3 = e4 .before .before .before in
-    let e2 = e3 .before in
-    let e1 = e2 .before .before .before in
-    let x = e1 .before .before in
-    let a = x .args in
-    request-again (a .players .now) (x .pre) (a .player) (a .range) (is-player _ (e1 .if1 .left)) (e2 .if2 .left) (e3 .if3 .left) (sym (not-false _ (e4 .if4 .left)) ∙ e4 .before .all-are .ensures) _ _ (s .scan .ensures) (c .before .if5 .taken) _ (c .refuse5 .ensures)
+returns-5 c = request-again (asks (c .before .before .before .before .before .before)) (c .before .before .before .before .scan .ensures) (c .before .if5 .taken) _ (c .refuse5 .ensures)
 
 refuse-requires-6 : tie.Need-refuse-requires-6
-refuse-requires-6 c κs = search needs
+refuse-requires-6 c κs = tt
 
 same-length-3 : tie.Need-same-length-3
-same-length-3 c = search needs
+same-length-3 c = c .before .before .before .before .before .players .given .1
 
 returns-6 : tie.Need-returns-6
 returns-6 c =
-    let s = c .before .before .before .before .before .before in
-    let e4 = s .before .before in
-    let e3 = e4 .before .before .before in
-    let e2 = e3 .before in
-    let e1 = e2 .before .before .before in
-    let x = e1 .before .before in
-    let a = x .args in
-    request-full (a .players .now) (x .pre) (a .player) (a .range) (is-player _ (e1 .if1 .left)) (e2 .if2 .left) (e3 .if3 .left) (sym (not-false _ (e4 .if4 .left)) ∙ e4 .before .all-are .ensures) _ _ (s .scan .ensures) (c .before .before .before .if5 .left) (c .before .if6 .taken) _ (c .refuse6 .ensures)
+    let e5 = c .before .before .before in
+    let s = e5 .before .before .before in
+    request-full (asks (s .before .before)) (s .scan .ensures) (e5 .if5 .left) (c .before .if6 .taken) _ (c .refuse6 .ensures)
 
 slice-read-last : tie.Need-slice-read-last
-slice-read-last c = search needs
+slice-read-last c = has-last (whole (c .before .before .before .before .before))
 
 refuse-requires-7 : tie.Need-refuse-requires-7
-refuse-requires-7 c κs = search needs
+refuse-requires-7 c κs = tt
 
 same-length-4 : tie.Need-same-length-4
-same-length-4 c = search needs
+same-length-4 c = c .before .before .before .before .before .before .before .players .given .1
 
 returns-7 : tie.Need-returns-7
 returns-7 c =
-    let s = c .before .before .before .before .before .before .before .before in
-    let e4 = s .before .before in
-    let e3 = e4 .before .before .before in
-    let e2 = e3 .before in
-    let e1 = e2 .before .before .before in
-    let x = e1 .before .before in
-    let a = x .args in
-    request-spent (a .players .now) (x .pre) (a .player) (a .range) (is-player _ (e1 .if1 .left)) (e2 .if2 .left) (e3 .if3 .left) (sym (not-false _ (e4 .if4 .left)) ∙ e4 .before .all-are .ensures) _ _ (s .scan .ensures) (c .before .before .before .before .before .if5 .left) (c .before .before .before .if6 .left) (c .before .if7 .taken) _ (c .refuse7 .ensures)
+    let e6 = c .before .before .before in
+    let e5 = e6 .before .before in
+    let s = e5 .before .before .before in
+    request-spent (asks (s .before .before)) (s .scan .ensures) (e5 .if5 .left) (e6 .if6 .left) (c .before .if7 .taken) _ (c .refuse7 .ensures)
 
 mul-i : tie.Need-mul-i
-mul-i c = search needs
+mul-i c = cells (c .before .before .before .before .before .before .before .before .before) .row
 
 add-clear : tie.Need-add-clear
-add-clear c = search needs
+add-clear c = cells (c .before .before .before .before .before .before .before .before .before .before) .first
 
 add-clear-2 : tie.Need-add-clear-2
-add-clear-2 c = search needs
+add-clear-2 c = cells (c .before .before .before .before .before .before .before .before .before .before) .last
 
 clear-requires : tie.Need-clear-requires
-clear-requires c κs = search needs
+clear-requires c κs =
+    let k = cells (c .before .before .before .before .before .before .before .before .before .before) in
+    (whole (c .before .before .before .before .before .before .before), k .ordered, k .inside)
 
 add-for-guard : tie.Need-add-for-guard
 add-for-guard c = next-fits _ (c .before .before .before .before .before .if7 .left)
 
 for-guard-requires : tie.Need-for-guard-requires
-for-guard-requires c κs = search needs
+for-guard-requires c κs = tt
 
 add-requires : tie.Need-add-requires
-add-requires c κs = c .before .before .before .before .clear .kept .0 ∙ c .before .before .before .before .before .before .before .before .before .before .before .before .players .given .1 ∙ c .before .before .before .before .before .before .before .before .before .before .before .before .before .before .before .before .before .before .before .before .before .before .before .before .pre
+add-requires c κs = c .before .before .before .before .clear .kept .0 ∙ whole (c .before .before .before .before .before .before .before .before .before .before .before .before)
 
 add-issued : tie.Need-add-issued
 add-issued c = next-fits _ (c .before .before .before .before .before .before .before .before .before .if7 .left)
 
 issued-requires : tie.Need-issued-requires
-issued-requires c κs = search needs
+issued-requires c κs = tt
 
 same-length-5 : tie.Need-same-length-5
-same-length-5 c = search needs
+same-length-5 c = c .before .before .before .add .kept .0 ∙ c .before .before .before .before .before .before .before .before .clear .kept .0 ∙ c .before .before .before .before .before .before .before .before .before .before .before .before .before .before .before .before .players .given .1
 
 returns-8 : tie.Need-returns-8
 returns-8 c =
@@ -165,13 +182,7 @@ returns-8 c =
     let e6 = e7 .before .before in
     let e5 = e6 .before .before in
     let s = e5 .before .before .before in
-    let e4 = s .before .before in
-    let e3 = e4 .before .before .before in
-    let e2 = e3 .before in
-    let e1 = e2 .before .before .before in
-    let x = e1 .before .before in
-    let a = x .args in
-    request-done (a .players .now) (x .pre) (a .player) (a .range) (is-player _ (e1 .if1 .left)) (e2 .if2 .left) (e3 .if3 .left) (sym (not-false _ (e4 .if4 .left)) ∙ e4 .before .all-are .ensures) _ _ (s .scan .ensures) (e5 .if5 .left) (e6 .if6 .left) (e7 .if7 .left)
+    request-done (asks (s .before .before)) (s .scan .ensures) (e5 .if5 .left) (e6 .if6 .left) (e7 .if7 .left)
     _ (c .before .before .before .before .before .before .before .before .clear .ensures) _ (c .before .before .before .before .for-guard .ensures) _ (c .before .before .before .add .ensures) _ (c .issued .ensures)
 
 pub request-guard-spec : {M : Type 1} → statement M

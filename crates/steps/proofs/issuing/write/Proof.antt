@@ -1,19 +1,31 @@
 -- `steps::issuing::write` meets its contract: a case at each return.
 -- Assumes nothing.
-use mathlib.Core.Path.{sym, _∙_}
-use native.Mathlib.Omega.{arith}
+use mathlib.Core.Path.{_≡_, refl, sym, _∙_}
+use lib.Dec.{lit≤}
+use lib.ListN.{length}
 use borrow.Author.Needs.{needs}
-use Rattle.steps.proofs.IssuingLaws.{write-player, write-owner, write-dead, write-full, write-spent, write-done}
+use Rattle.players.specs.Table.{players-words}
+use Rattle.steps.proofs.IssuingLaws.{has-last, has-requests, is-player, next-fits, Cell, cell-of, write-player, write-owner, write-dead, write-full, write-spent, write-done}
 use Rattle.steps.proofs.issuing.write.Statement.{statement}
 use Rattle.steps.proofs.issuing.write.Tie as tie
 
+-- the cell that is cleared, and the table after it, which is as long
+cell : (c : tie.After-cache-arg) → Cell (c .before .before .before .before .before .before .before .before .before .before .before .before .before .before .args .player) (c .before .before .before .before .before .before .before .before .before .before .before .before .before .before .args .entry)
+cell c =
+    let x = c .before .before .before .before .before .before .before .before .before .before .before .before .before .before in
+    cell-of (x .args .player) (x .args .entry) (is-player _ (c .before .before .before .before .before .before .before .before .before .before .before .before .if1 .left)) (x .fits .entry .fits)
+
+whole : (c : tie.After-cache) → length (c .cache .last .0) ≡ players-words
+whole c = c .cache .kept .0 ∙ c .before .before .before .before .before .before .before .before .before .before .before .before .before .before .before .pre
+
 refuse-requires : tie.Need-refuse-requires
-refuse-requires c κs = search needs
+refuse-requires c κs = tt
 
 returns : tie.Need-returns
 returns c =
-    let a = c .before .before .before .args in
-    write-player (a .players .now) (c .before .before .before .pre) (a .player) (a .entry) (a .value) (omega arith) _ (c .refuse .ensures)
+    let x = c .before .before .before in
+    let a = x .args in
+    write-player (a .players .now) (x .pre) (a .player) (a .entry) (a .value) (c .before .if1 .taken) _ (c .refuse .ensures)
 
 add-if2 : tie.Need-add-if2
 add-if2 c = search needs
@@ -25,107 +37,139 @@ slice-read-if2 : tie.Need-slice-read-if2
 slice-read-if2 c = search needs
 
 refuse-requires-2 : tie.Need-refuse-requires-2
-refuse-requires-2 c κs = search needs
+refuse-requires-2 c κs = tt
 
 returns-2 : tie.Need-returns-2
 returns-2 c =
-    let a = c .before .before .before .before .before .args in
-    write-owner (a .players .now) (c .before .before .before .before .before .pre) (a .player) (a .entry) (a .value) (omega arith) (omega arith) (c .before .if2 .taken) _ (c .refuse2 .ensures)
+    let e1 = c .before .before .before in
+    let x = e1 .before .before in
+    let a = x .args in
+    write-owner (a .players .now) (x .pre) (a .player) (a .entry) (a .value) (is-player _ (e1 .if1 .left)) (x .fits .entry .fits) (c .before .if2 .taken) _ (c .refuse2 .ensures)
 
 live-guard-requires : tie.Need-live-guard-requires
-live-guard-requires c κs = search needs
+live-guard-requires c κs =
+    let e1 = c .before .before .before in
+    (e1 .before .before .pre, is-player _ (e1 .if1 .left))
 
 refuse-requires-3 : tie.Need-refuse-requires-3
-refuse-requires-3 c κs = search needs
+refuse-requires-3 c κs = tt
 
 same-length : tie.Need-same-length
-same-length c = search needs
+same-length c = refl
 
 returns-3 : tie.Need-returns-3
 returns-3 c =
-    let a = c .before .before .before .before .before .before .before .before .args in
-    write-dead (a .players .now) (c .before .before .before .before .before .before .before .before .pre) (a .player) (a .entry) (a .value) (omega arith) (omega arith) (c .before .before .before .before .if2 .left) _ (c .before .before .live-guard .ensures) (c .before .if3 .taken) _ (c .refuse3 .ensures)
+    let g = c .before .before in
+    let e2 = g .before .before in
+    let e1 = e2 .before .before in
+    let x = e1 .before .before in
+    let a = x .args in
+    write-dead (a .players .now) (x .pre) (a .player) (a .entry) (a .value) (is-player _ (e1 .if1 .left)) (x .fits .entry .fits) (e2 .if2 .left) _ (g .live-guard .ensures) (c .before .if3 .taken) _ (c .refuse3 .ensures)
 
 sub-is-full : tie.Need-sub-is-full
-sub-is-full c = search needs
+sub-is-full c = lit≤ tt
 
 part-is-full-start : tie.Need-part-is-full-start
-part-is-full-start c = search needs
+part-is-full-start c = lit≤ tt
 
 part-is-full-end : tie.Need-part-is-full-end
-part-is-full-end c = search needs
+part-is-full-end c = has-requests (c .before .before .before .before .before .before .before .before .pre)
 
 is-full-requires : tie.Need-is-full-requires
-is-full-requires c κs = search needs
+is-full-requires c κs = tt
 
 refuse-requires-4 : tie.Need-refuse-requires-4
-refuse-requires-4 c κs = search needs
+refuse-requires-4 c κs = tt
 
 same-length-2 : tie.Need-same-length-2
-same-length-2 c = search needs
+same-length-2 c = refl
 
 returns-4 : tie.Need-returns-4
 returns-4 c =
-    let a = c .before .before .before .before .before .before .before .before .before .before .before .before .args in
-    write-full (a .players .now) (c .before .before .before .before .before .before .before .before .before .before .before .before .pre) (a .player) (a .entry) (a .value) (omega arith) (omega arith) (c .before .before .before .before .before .before .before .before .if2 .left) _ (c .before .before .before .before .before .before .live-guard .ensures) (c .before .before .before .before .before .if3 .left) (sym (c .before .if4 .taken) ∙ c .before .before .is-full .ensures) _ (c .refuse4 .ensures)
+    let f = c .before .before in
+    let e3 = f .before .before .before in
+    let g = e3 .before in
+    let e2 = g .before .before in
+    let e1 = e2 .before .before in
+    let x = e1 .before .before in
+    let a = x .args in
+    write-full (a .players .now) (x .pre) (a .player) (a .entry) (a .value) (is-player _ (e1 .if1 .left)) (x .fits .entry .fits) (e2 .if2 .left) _ (g .live-guard .ensures) (e3 .if3 .left) (sym (c .before .if4 .taken) ∙ f .is-full .ensures) _ (c .refuse4 .ensures)
 
 slice-read-last : tie.Need-slice-read-last
-slice-read-last c = search needs
+slice-read-last c = has-last (c .before .before .before .before .before .before .before .before .before .before .before .before .pre)
 
 refuse-requires-5 : tie.Need-refuse-requires-5
-refuse-requires-5 c κs = search needs
+refuse-requires-5 c κs = tt
 
 same-length-3 : tie.Need-same-length-3
-same-length-3 c = search needs
+same-length-3 c = refl
 
 returns-5 : tie.Need-returns-5
 returns-5 c =
-    let a = c .before .before .before .before .before .before .before .before .before .before .before .before .before .before .args in
-    write-spent (a .players .now) (c .before .before .before .before .before .before .before .before .before .before .before .before .before .before .pre) (a .player) (a .entry) (a .value) (omega arith) (omega arith) (c .before .before .before .before .before .before .before .before .before .before .if2 .left) _ (c .before .before .before .before .before .before .before .before .live-guard .ensures) (c .before .before .before .before .before .before .before .if3 .left) (sym (c .before .before .before .if4 .left) ∙ c .before .before .before .before .is-full .ensures) (omega arith) _ (c .refuse5 .ensures)
+    let e4 = c .before .before .before in
+    let f = e4 .before in
+    let e3 = f .before .before .before in
+    let g = e3 .before in
+    let e2 = g .before .before in
+    let e1 = e2 .before .before in
+    let x = e1 .before .before in
+    let a = x .args in
+    write-spent (a .players .now) (x .pre) (a .player) (a .entry) (a .value) (is-player _ (e1 .if1 .left)) (x .fits .entry .fits) (e2 .if2 .left) _ (g .live-guard .ensures) (e3 .if3 .left) (sym (e4 .if4 .left) ∙ f .is-full .ensures) (c .before .if5 .taken) _ (c .refuse5 .ensures)
 
 mul-cache : tie.Need-mul-cache
-mul-cache c = search needs
+mul-cache c = cell c .row
 
 add-cache : tie.Need-add-cache
-add-cache c = search needs
+add-cache c = cell c .index
 
 cache-requires : tie.Need-cache-requires
-cache-requires c κs = search needs
+cache-requires c κs = (c .before .before .before .before .before .before .before .before .before .before .before .before .before .before .pre, cell c .inside)
 
 sub-scan : tie.Need-sub-scan
-sub-scan c = search needs
+sub-scan c = lit≤ tt
 
 part-scan-start : tie.Need-part-scan-start
-part-scan-start c = search needs
+part-scan-start c = lit≤ tt
 
 part-scan-end : tie.Need-part-scan-end
-part-scan-end c = search needs
+part-scan-end c = has-requests (whole (c .before .before))
 
 scan-requires : tie.Need-scan-requires
-scan-requires c κs = search needs
+scan-requires c κs = tt
 
 add-for-entry : tie.Need-add-for-entry
-add-for-entry c = search needs
+add-for-entry c = next-fits _ (c .before .before .before .before .before .before .before .before .before .if5 .left)
 
 for-entry-requires : tie.Need-for-entry-requires
-for-entry-requires c κs = search needs
+for-entry-requires c κs = tt
 
 add-requires : tie.Need-add-requires
-add-requires c κs = c .before .before .before .players3 .given .1 ∙ c .before .before .before .before .before .before .before .before .cache .kept .0 ∙ c .before .before .before .before .before .before .before .before .before .before .before .before .before .before .before .before .before .before .before .before .before .before .before .pre
+add-requires c κs = c .before .before .before .players3 .given .1 ∙ whole (c .before .before .before .before .before .before .before .before)
 
 add-issued : tie.Need-add-issued
-add-issued c = search needs
+add-issued c = next-fits _ (c .before .before .before .before .before .before .before .before .before .before .before .before .before .if5 .left)
 
 issued-requires : tie.Need-issued-requires
-issued-requires c κs = search needs
+issued-requires c κs = tt
 
 same-length-4 : tie.Need-same-length-4
-same-length-4 c = search needs
+same-length-4 c = c .before .before .before .add .kept .0 ∙ c .before .before .before .before .before .before .before .players3 .given .1 ∙ c .before .before .before .before .before .before .before .before .before .before .before .before .cache .kept .0
 
 returns-6 : tie.Need-returns-6
 returns-6 c =
-    let a = c .before .before .before .before .before .before .before .before .before .before .before .before .before .before .before .before .before .before .before .before .before .before .before .before .before .before .before .args in
-    write-done (a .players .now) (c .before .before .before .before .before .before .before .before .before .before .before .before .before .before .before .before .before .before .before .before .before .before .before .before .before .before .before .pre) (a .player) (a .entry) (a .value) (omega (arith, c .before .before .before .before .before .before .before .before .before .before .before .before .before .before .before .before .before .before .before .before .before .before .before .before .before .if1 .left)) (omega (arith, c .before .before .before .before .before .before .before .before .before .before .before .before .before .before .before .before .before .before .before .before .before .before .before .before .before .before .before .fits)) (c .before .before .before .before .before .before .before .before .before .before .before .before .before .before .before .before .before .before .before .before .before .before .before .if2 .left) _ (c .before .before .before .before .before .before .before .before .before .before .before .before .before .before .before .before .before .before .before .before .before .live-guard .ensures) (c .before .before .before .before .before .before .before .before .before .before .before .before .before .before .before .before .before .before .before .before .if3 .left) (sym (c .before .before .before .before .before .before .before .before .before .before .before .before .before .before .before .before .if4 .left) ∙ c .before .before .before .before .before .before .before .before .before .before .before .before .before .before .before .before .before .is-full .ensures) (omega (arith, c .before .before .before .before .before .before .before .before .before .before .before .before .before .before .if5 .left)) _ (c .before .before .before .before .before .before .before .before .before .before .before .before .cache .ensures) _ _ (c .before .before .before .before .before .before .before .before .scan .ensures) _ (c .before .before .before .before .for-entry .ensures) _ (c .before .before .before .add .ensures) _ (c .issued .ensures)
+    let s = c .before .before .before .before .before .before .before .before in
+    let h = s .before .before .before .before in
+    let e5 = h .before .before in
+    let e4 = e5 .before .before in
+    let f = e4 .before in
+    let e3 = f .before .before .before in
+    let g = e3 .before in
+    let e2 = g .before .before in
+    let e1 = e2 .before .before in
+    let x = e1 .before .before in
+    let a = x .args in
+    write-done (a .players .now) (x .pre) (a .player) (a .entry) (a .value) (is-player _ (e1 .if1 .left)) (x .fits .entry .fits) (e2 .if2 .left) _ (g .live-guard .ensures) (e3 .if3 .left) (sym (e4 .if4 .left) ∙ f .is-full .ensures) (e5 .if5 .left)
+    _ (h .cache .ensures) _ _ (s .scan .ensures) _ (c .before .before .before .before .for-entry .ensures) _ (c .before .before .before .add .ensures) _ (c .issued .ensures)
 
 pub write-spec : {M : Type 1} → statement M
 write-spec =
