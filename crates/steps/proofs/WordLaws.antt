@@ -140,16 +140,24 @@ module _ (g : ℕ) (t : List ℕ) where
   unfolding dropped
   drop-one i t′ h e = rw (eq-eqb (getD t (513 + i) 0) g h) e
 
-  module _ (low e : ℕ) where
-    pub drop-more : e < 256 → (t′ : List ℕ) → t′ ≡ dropped g (low + e) 1 t → dropped g (low + e) (256 - e) t ≡ dropped g (low + (e + 1)) (256 - (e + 1)) t′
+  pub drop-four : (i : ℕ) (t₁ t₂ t₃ t₄ : List ℕ) → t₁ ≡ dropped g i 1 t → t₂ ≡ dropped g (i + 1) 1 t₁ → t₃ ≡ dropped g (i + 2) 1 t₂ → t₄ ≡ dropped g (i + 3) 1 t₃ → t₄ ≡ dropped g i 4 t
+  unfolding dropped
+  drop-four i t₁ t₂ t₃ t₄ e₁ e₂ e₃ e₄ =
+      let one : suc i ≡ i + 1 = omega arith in
+      let two : suc (suc i) ≡ i + 2 = omega arith in
+      let three : suc (suc (suc i)) ≡ i + 3 = omega arith in
+      rw (e₄, e₃, e₂, e₁, three, two, one)
+
+  module _ (low k : ℕ) where
+    pub drop-more : k < 64 → (t′ : List ℕ) → t′ ≡ dropped g (low + k * 4) 4 t → dropped g (low + k * 4) (256 - k * 4) t ≡ dropped g (low + (k + 1) * 4) (256 - (k + 1) * 4) t′
     unfolding dropped
     drop-more h t′ et =
-        let one : 256 - e ≡ suc (256 - (e + 1)) = omega arith in
-        let next : suc (low + e) ≡ low + (e + 1) = omega arith in
-        rw (one, et, ← next)
+        let four : 256 - k * 4 ≡ suc (suc (suc (suc (256 - (k + 1) * 4)))) = omega arith in
+        let next : suc (suc (suc (suc (low + k * 4)))) ≡ low + (k + 1) * 4 = omega arith in
+        rw (four, et, ← next)
 
-    pub drop-end : 256 ≤ e → dropped g (low + e) (256 - e) t ≡ t
+    pub drop-end : 64 ≤ k → dropped g (low + k * 4) (256 - k * 4) t ≡ t
     unfolding dropped
     drop-end h =
-        let z : 256 - e ≡ 0 = omega arith in
+        let z : 256 - k * 4 ≡ 0 = omega arith in
         rw z
