@@ -2,7 +2,7 @@
 -- Assumes nothing.
 use mathlib.Core.Path.{_≡_, refl, sym, ap, _∙_}
 use mathlib.Core.Logic.{⊎-elim}
-use mathlib.Core.Bool.{Bool, true, false, cond}
+use mathlib.Core.Bool.{Bool, true, false, cond, _&&_}
 use mathlib.Core.List.{List, [], _∷_, _++_, map}
 use Prim.Native.Nat.{ℕ, zero, suc, _+_, _-_, _*_, _≤_, _<_}
 use native.Mathlib.Nat.{add-zero, zero-add, sub-zero, not-suc-le-zero, le-of-suc-le-suc}
@@ -10,12 +10,12 @@ use native.Mathlib.Omega.{arith}
 use lib.Dec.{leb, eqb}
 use lib.ListN.{length, getD, take, drop, set, replicate, getD-replicate, length-replicate, length-map, replicate-append-replicate}
 use lib.Seq.{take-append-add, drop-append-add, drop-at, getD-append-add}
-use borrow.Author.Tests.{eq-eqb, ne-eqb, lt-ltb, leb-true, leb-false}
+use borrow.Author.Tests.{eq-eqb, ne-eqb, eqb-true, lt-ltb, leb-true, leb-false}
 use Rattle.requests.specs.declared.Request.{Request}
 use Rattle.requests.specs.declared.Fit.{Fit}
 use Rattle.requests.specs.declared.Look.{Look}
 use Rattle.requests.specs.declared.Found.the-variants.{At, Nowhere}
-use Rattle.requests.specs.Model.{places, by, named, any, keep, find, drop-request, change-request, mark-overlapped, mark-abandoned, mark-delivered}
+use Rattle.requests.specs.Model.{places, serial-is, by, fits, named, any, keep, find, drop-request, change-request, mark-overlapped, mark-abandoned, mark-delivered}
 use Rattle.requests.specs.Region.{requestOf, requestsFrom, whole, requestsOf, wordsOf, placed, regionOf}
 use Rattle.requests.specs.Calls.{found-from, found, scanned, full, over, with-request, with-abandoned, with-delivered, closed, without, overlapped-from, sought, crossed, pass, passed, remains, give-up, remaining, restarted}
 use Rattle.requests.proofs.Basics.{decide, cond-elim}
@@ -65,31 +65,44 @@ record Lies (f : Fit) (n i k : ℕ) (r : Request) (rs : List Request) : Type 1 w
   stands : Stands r place rs
   found-first : {A : Type 0} (x : A) (go : Request → A) → find (named f n) rs x go ≡ go r
 
-lies-cond : (f : Fit) (n i k : ℕ) (r q : Request) (rs : List Request) (b : Bool) → named f n q ≡ b → At k r ≡ cond b (At i q) (found-from f n (i + 1) rs)
+lies-cond : (f : Fit) (n i k : ℕ) (r q : Request) (rs : List Request) (s b : Bool) → serial-is n q ≡ s → fits f q ≡ b → At k r ≡ cond s (cond b (At i q) Nowhere) (found-from f n (i + 1) rs)
     → (At k r ≡ found-from f n (i + 1) rs → Lies f n (i + 1) k r rs) → Lies f n i k r (q ∷ rs)
-lies-cond f n i k r q rs true eb e g =
+lies-cond f n i k r q rs true true es eb e g =
     let z : k ≡ i = cc in
     let y : r ≡ q = cc in
-    rw y (record { place = 0; counted = z ∙ sym (add-zero i); stands = first; found-first = λ x go. rw eb })
-lies-cond f n i k r q rs false eb e g =
+    rw y (record { place = 0; counted = z ∙ sym (add-zero i); stands = first; found-first = λ x go. rw (es, eb) })
+lies-cond f n i k r q rs true false es eb e g = let z : _≡_ {A = ℕ} 0 1 = cc in absurd (omega arith)
+lies-cond f n i k r q rs false b es eb e g =
     let l = g e in
-    record { place = suc (l .place); counted = let c = l .counted in omega arith; stands = later (l .stands); found-first = λ x go. rw eb (l .found-first x go) }
+    record { place = suc (l .place); counted = let c = l .counted in omega arith; stands = later (l .stands); found-first = λ x go. rw es (l .found-first x go) }
 
 lies : (f : Fit) (n i k : ℕ) (r : Request) (rs : List Request) → At k r ≡ found-from f n i rs → Lies f n i k r rs
 unfolding found-from
 lies f n i k r [] e = let z : _≡_ {A = ℕ} 0 1 = cc in absurd (omega arith)
-lies f n i k r (q ∷ rs) e = lies-cond f n i k r q rs (named f n q) refl e (λ p. lies f n (i + 1) k r rs p)
+lies f n i k r (q ∷ rs) e = lies-cond f n i k r q rs (serial-is n q) (fits f q) refl refl e (λ p. lies f n (i + 1) k r rs p)
 
-nowhere-cond : {A : Type 0} (f : Fit) (n i : ℕ) (r : Request) (rs : List Request) (x : A) (go : Request → A) (b : Bool)
-    → Nowhere ≡ cond b (At i r) (found-from f n (i + 1) rs) → (Nowhere ≡ found-from f n (i + 1) rs → find (named f n) rs x go ≡ x)
-    → cond b (go r) (find (named f n) rs x go) ≡ x
-nowhere-cond f n i r rs x go true e g = let z : _≡_ {A = ℕ} 0 1 = cc in absurd (omega arith)
-nowhere-cond f n i r rs x go false e g = g e
+module _ {A : Type 0} (f : Fit) (n : ℕ) (x : A) (go : Request → A) where
+  nowhere-cond : (i : ℕ) (r : Request) (rs : List Request) (s b : Bool) → Nowhere ≡ cond s (cond b (At i r) Nowhere) (found-from f n (i + 1) rs)
+      → (s ≡ true → find (named f n) rs x go ≡ x) → (Nowhere ≡ found-from f n (i + 1) rs → find (named f n) rs x go ≡ x)
+      → cond (s && b) (go r) (find (named f n) rs x go) ≡ x
+  nowhere-cond i r rs true true e g h = let z : _≡_ {A = ℕ} 0 1 = cc in absurd (omega arith)
+  nowhere-cond i r rs true false e g h = g refl
+  nowhere-cond i r rs false b e g h = h e
 
-find-nowhere : {A : Type 0} (f : Fit) (n i : ℕ) (rs : List Request) (x : A) (go : Request → A) → Nowhere ≡ found-from f n i rs → find (named f n) rs x go ≡ x
-unfolding found-from
-find-nowhere f n i [] x go e = refl
-find-nowhere f n i (r ∷ rs) x go e = nowhere-cond f n i r rs x go (named f n r) e (λ p. find-nowhere f n (i + 1) rs x go p)
+  module _ (Q : Request → Type 0) where
+    -- a serial that the list has passed
+    find-above : (p : ℕ) (rs : List Request) → n ≤ p → Each Q p rs → find (named f n) rs x go ≡ x
+    find-above p [] h t = refl
+    find-above p (r ∷ rs) h t =
+        rw (ne-eqb (r .serial) n (λ e. omega (arith, t .0))) (find-above (r .serial) rs (omega (arith, t .0)) (t .2))
+
+    find-nowhere : (i p : ℕ) (rs : List Request) → Each Q p rs → Nowhere ≡ found-from f n i rs → find (named f n) rs x go ≡ x
+    unfolding found-from
+    find-nowhere i p [] t e = refl
+    find-nowhere i p (r ∷ rs) t e =
+        nowhere-cond i r rs (serial-is n r) (fits f r) e
+        (λ s. let y = eqb-true (r .serial) n s in find-above (r .serial) rs (omega (arith, y)) (t .2))
+        (λ d. find-nowhere (i + 1) (r .serial) rs (t .2) d)
 
 -- what is found fits its fields, in any region
 abbrev AllFit : List Request → Type 0
@@ -285,7 +298,7 @@ module _ (n : ℕ) (rs : List Request) (few : length rs ≤ places) (q : Request
 
   -- nothing is found
   pub nowhere-region : {A : Type 0} (f : Fit) (i : ℕ) (x : A) (go : Request → A) → Nowhere ≡ found f i (regionOf rs) → find (named f i) rs x go ≡ x
-  nowhere-region f i x go e = find-nowhere f i 0 rs x go (e ∙ ap (found-from f i 0) (requests-region n rs few q))
+  nowhere-region f i x go e = find-nowhere f i x go _ 0 0 rs q (e ∙ ap (found-from f i 0) (requests-region n rs few q))
 
   module _ (f : Fit) (i k : ℕ) (r : Request) (e : At k r ≡ found f i (regionOf rs)) where
     here-lies : Lies f i 0 k r rs

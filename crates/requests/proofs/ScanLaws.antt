@@ -2,7 +2,7 @@
 -- Assumes nothing.
 use mathlib.Core.Path.{_≡_, refl, sym, ap, _∙_}
 use mathlib.Core.Logic.{⊎-elim}
-use mathlib.Core.Bool.{Bool, true, false, _||_, or-false, or-assoc}
+use mathlib.Core.Bool.{Bool, true, false, cond, _||_, or-false, or-assoc}
 use mathlib.Core.List.{List, [], _∷_}
 use Prim.Native.Nat.{ℕ, suc, _+_, _-_, _*_, _≤_, _<_}
 use native.Mathlib.Nat.{add-zero, zero-add}
@@ -15,7 +15,7 @@ use Rattle.requests.specs.declared.Fit.{Fit}
 use Rattle.requests.specs.declared.Found.{Found}
 use Rattle.requests.specs.declared.Found.the-variants.{At, Nowhere}
 use Rattle.requests.specs.declared.Scan.{Scan}
-use Rattle.requests.specs.Model.{fits, named, any, find}
+use Rattle.requests.specs.Model.{serial-is, fits, any, find}
 use Rattle.requests.specs.Region.{requestAt, requestsFrom, requestsOf, wordsOf}
 use Rattle.requests.specs.Answers.{gives, refused, no-such-request}
 use Rattle.requests.specs.Calls.{found-from, found, numbers, ahead, Finds, scanned}
@@ -80,32 +80,31 @@ module _ (w : List ℕ) (f : Fit) (n : ℕ) where
     unfolding found-from
     find-end e = rw e
 
-    pub other-serial : (getD w (k * 12) 0 ≡ n → ⊥) → false ≡ named f n (requestAt w k)
-    other-serial e = rw (ne-eqb (requestAt w k .serial) n (λ y. e (sym (serial-at w k) ∙ y)))
-
-    pub this-serial : getD w (k * 12) 0 ≡ n → fits f (requestAt w k) ≡ named f n (requestAt w k)
-    this-serial e = rw (eq-eqb (requestAt w k .serial) n (serial-at w k ∙ e))
-
-    module _ (h : k < 64) (z : getD w (k * 12) 0 ≡ 0 → ⊥) (b : Bool) (eb : b ≡ named f n (requestAt w k)) where
-      pub find-hit : b ≡ true → found-from f n k (from w k) ≡ At k (requestAt w k)
+    module _ (h : k < 64) (z : getD w (k * 12) 0 ≡ 0 → ⊥) where
+      pub find-here : getD w (k * 12) 0 ≡ n → (r : Request) → r ≡ requestAt w k → (b : Bool) → b ≡ fits f r → found-from f n k (from w k) ≡ cond b (At k r) Nowhere
       unfolding found-from
-      find-hit e = rw (from-used w k h z, ← eb, e)
+      find-here e r er b eb = rw (from-used w k h z, eq-eqb (requestAt w k .serial) n (serial-at w k ∙ e), eb, er)
 
-      pub find-on : b ≡ false → found-from f n k (from w k) ≡ found-from f n (k + 1) (from w (k + 1))
+      pub find-on : (getD w (k * 12) 0 ≡ n → ⊥) → found-from f n k (from w k) ≡ found-from f n (k + 1) (from w (k + 1))
       unfolding found-from
-      find-on e = rw (from-used w k h z, ← eb, e)
+      find-on e = rw (from-used w k h z, ne-eqb (requestAt w k .serial) n (λ y. e (sym (serial-at w k) ∙ y)))
+
+-- the numbers where the serial stands, if the request fits
+numbers-here : (k : ℕ) (r : Request) (b : Bool) → numbers (cond b (At k r) Nowhere) ≡ cond b (gives ((k + 0) ∷ wordsOf r)) (refused no-such-request)
+numbers-here k r true = ap (λ (j : ℕ). gives (j ∷ wordsOf r)) (sym (add-zero k))
+numbers-here k r false = refl
 
 -- the numbers of a search among requests the first of which is at place k
-numbers-from : (f : Fit) (n k : ℕ) (rs : List Request) → numbers (found-from f n k rs) ≡ find (named f n) rs (refused no-such-request) (λ r. gives ((k + ahead (named f n) rs) ∷ wordsOf r))
+numbers-from : (f : Fit) (n k : ℕ) (rs : List Request) → numbers (found-from f n k rs) ≡ find (serial-is n) rs (refused no-such-request) (λ r. cond (fits f r) (gives ((k + ahead (serial-is n) rs) ∷ wordsOf r)) (refused no-such-request))
 unfolding found-from
 numbers-from f n k [] = refl
 numbers-from f n k (r ∷ rs) =
     ⊎-elim
-    (λ t. rw t (ap (λ (j : ℕ). gives (j ∷ wordsOf r)) (sym (add-zero k))))
+    (λ t. rw t (numbers-here k r (fits f r)))
     (λ t.
-    let x : k + 1 + ahead (named f n) rs ≡ k + (ahead (named f n) rs + 1) = omega arith in
+    let x : k + 1 + ahead (serial-is n) rs ≡ k + (ahead (serial-is n) rs + 1) = omega arith in
     rw t (numbers-from f n (k + 1) rs ∙ rw x))
-    (decide (named f n r))
+    (decide (serial-is n r))
 
 pub finds : (f : Fit) (n : ℕ) (w : List ℕ) (r : Found) → r ≡ found f n w → Finds f n w r
 finds f n w r e = record { answer = e; numbered = ap numbers e ∙ numbers-from f n 0 (requestsOf w) ∙ rw zero-add }

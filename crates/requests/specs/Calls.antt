@@ -13,16 +13,16 @@ use Rattle.requests.specs.declared.Found.the-variants.{At, Nowhere}
 use Rattle.requests.specs.declared.Look.{Look}
 use Rattle.requests.specs.declared.Look.the-variants.{Requesting, Writing, Crossing}
 use Rattle.requests.specs.declared.Scan.{Scan}
-use Rattle.requests.specs.Model.{places, by, pending, named, requesting, writing, using-entry, any, find, mark-abandoned}
+use Rattle.requests.specs.Model.{places, serial-is, by, pending, fits, requesting, writing, using-entry, any, find, mark-abandoned}
 use Rattle.requests.specs.Region.{requestOf, whole, requestsOf, wordsOf}
 use Rattle.requests.specs.Answers.{Numbers, gives, refused, no-such-request}
 
 -- ---- what is found
 
--- the request with serial n that fits, and its place, where the list's first is at place k
+-- the first request with serial n, if it fits, and its place, where the list's first is at place k
 unfoldable pub found-from : Fit → ℕ → ℕ → List Request → Found
 found-from f n k [] = Nowhere
-found-from f n k (r ∷ rs) = cond (named f n r) (At k r) (found-from f n (k + 1) rs)
+found-from f n k (r ∷ rs) = cond (serial-is n r) (cond (fits f r) (At k r) Nowhere) (found-from f n (k + 1) rs)
 
 abbrev pub found : Fit → ℕ → List ℕ → Found
 found f n w = found-from f n 0 (requestsOf w)
@@ -40,7 +40,7 @@ ahead f (r ∷ rs) = cond (f r) 0 (ahead f rs + 1)
 -- those of a region, by its requests alone
 abbrev pub found-numbers : Fit → ℕ → List ℕ → Numbers
 found-numbers f n w =
-    find (named f n) (requestsOf w) (refused no-such-request) (λ r. gives (ahead (named f n) (requestsOf w) ∷ wordsOf r))
+    find (serial-is n) (requestsOf w) (refused no-such-request) (λ r. cond (fits f r) (gives (ahead (serial-is n) (requestsOf w) ∷ wordsOf r)) (refused no-such-request))
 
 -- what a search promises: the answer, and its numbers
 pub record Finds (f : Fit) (n : ℕ) (w : List ℕ) (r : Found) : Type 0 where

@@ -55,6 +55,12 @@ pub fits-case :
 unfolding requestOf requestsFrom requestsOf placed
 fits-case = refl
 
+-- of two requests with one serial, which the rules do not let be, the first counts: it is not delivered
+pub twice-case :
+    map (λ f. found-numbers f 4 (regionOf (request (place 4 3 0 0 0) ∷ request (place 4 2 0 1 0) ∷ [])) .code) (Undelivered ∷ Answerable ∷ []) ≡ 0 ∷ 32 ∷ []
+unfolding requestOf requestsFrom requestsOf placed
+twice-case = refl
+
 -- a read of entry 45 by player 3 is not looked for, and only a write there marks it
 pub crossed-case :
     map (λ x. passed x (regionOf (request (place 1 3 0 0 0) ∷ []))) (Writing 3 45 ∷ Crossing 3 45 ∷ Crossing 3 44 ∷ [])

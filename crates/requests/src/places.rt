@@ -1,5 +1,4 @@
 // One place of the region: 12 words, which hold a request.
-use crate::Fit;
 use crate::Look;
 use crate::Request;
 use crate::layout;
@@ -11,7 +10,7 @@ ghost use mathlib.Core.Bool.{cond, not, _&&_};
 ghost use Prim.Native.Nat.{_+_, _*_, _%_, _≤_, _<_};
 ghost use lib.Dec.{ltb, eqb};
 ghost use lib.ListN.{length, getD, take, drop, set, replicate};
-ghost use Rattle.requests.specs.Model.{by, named};
+ghost use Rattle.requests.specs.Model.{by};
 ghost use Rattle.requests.specs.Region.{requestAt, bit, wordsOf, region-words};
 ghost use Rattle.requests.specs.Calls.{over, closed, crossed, carried, carry};
 
@@ -63,17 +62,6 @@ pub(crate) fn request_at(region: &[u32], k: usize) -> Request
         first: region[b + layout::FIRST],
         second: region[b + layout::SECOND],
     }
-}
-
-// Whether the request of place `k` has the serial, and fits.
-pub(crate) fn is_named(region: &[u32], k: usize, serial: u32, fit: Fit) -> bool
-    requires { ⌜ (k < 64) × (length (now region) ≡ region-words) ⌝ }
-    ensures { λ r. ⌜ r ≡ named fit serial (requestAt (now (region .entry)) k) ⌝ }
-{
-    if region[k * layout::SIZE] != serial {
-        return false;
-    }
-    tests::fits(request_at(region, k), fit)
 }
 
 // Whether there is a place `k`, and it is used.

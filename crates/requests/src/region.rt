@@ -25,7 +25,7 @@ pub fn holds(region: &[u32], last: u32) -> bool
 
 // ---- what is found
 
-// The request with a serial, if it fits, and its place.
+// The request with a serial, if it fits, and its place. Of several with that serial, which a region that keeps the rules has not, the first counts.
 pub fn find(region: &[u32], serial: u32, fit: Fit) -> Found
     ensures { λ r. ⌜ Finds fit serial (now (region .entry)) r ⌝ }
 {
@@ -34,12 +34,16 @@ pub fn find(region: &[u32], serial: u32, fit: Fit) -> Found
     }
     let mut k = 0;
     while k < layout::PLACES {
-        if region[k * layout::SIZE] == 0 {
+        let named = region[k * layout::SIZE];
+        if named == 0 {
             return Found::Nowhere;
         }
-        if places::is_named(region, k, serial, fit) {
+        if named == serial {
             let request = places::request_at(region, k);
-            return Found::At { place: k, request };
+            if tests::fits(request, fit) {
+                return Found::At { place: k, request };
+            }
+            return Found::Nowhere;
         }
         k += 1;
     }
