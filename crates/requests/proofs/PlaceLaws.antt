@@ -18,13 +18,13 @@ use Rattle.requests.specs.Region.{requestOf, requestAt, request-holds, w
 -- ---- where a word lies
 
 -- word i of place k: its number, and that of its first byte, are numbers of the machine, and it is a word of the region w
-pub record Lies (w : List ℕ) (k i : ℕ) : Type 0 where
+pub record WordIn (w : List ℕ) (k i : ℕ) : Type 0 where
   pub index : Fits w64 (k * 12 + i)
   pub offset : Fits w64 ((k * 12 + i) * 4)
   pub inside : k * 12 + i < length w
 
-pub lies : (w : List ℕ) (k i : ℕ) → (k < 64) × (length w ≡ 768) → T (ltb i 12) → Lies w k i
-lies w k i (h, l) t =
+pub word-in : (w : List ℕ) (k i : ℕ) → (k < 64) × (length w ≡ 768) → T (ltb i 12) → WordIn w k i
+word-in w k i (h, l) t =
     let j : i < 12 = lit< t in
     record { index = record { fits = omega arith }; offset = record { fits = omega arith }; inside = omega arith }
 

@@ -5,15 +5,15 @@ use Prim.Native.Nat.{ℕ, _+_, _*_, _<_}
 use lib.Dec.{T, ltb}
 use lib.ListN.{length, take, set}
 use borrow.Author.Needs.{needs}
-use Rattle.requests.proofs.PlaceLaws.{Lies, lies}
+use Rattle.requests.proofs.PlaceLaws.{WordIn, word-in}
 use Rattle.requests.proofs.WordLaws.{puts, puts-long, put-place}
 use Rattle.requests.proofs.places.put_request.Statement.{statement}
 use Rattle.requests.proofs.places.put_request.Tie as tie
 
 -- word i of the place
 module _ (s : tie.Start) (i : ℕ) (t : T (ltb i 12)) where
-  word : Lies (s .args .region .now) (s .args .k) i
-  word = lies (s .args .region .now) (s .args .k) i (s .pre) t
+  word : WordIn (s .args .region .now) (s .args .k) i
+  word = word-in (s .args .region .now) (s .args .k) i (s .pre) t
 
   -- it lies in the region too after the words before it were written
   room : (vs : List ℕ) → s .args .k * 12 + i < length (puts (set (s .args .region .now) (s .args .k * 12) (s .args .r .serial)) (s .args .k * 12) 1 vs)

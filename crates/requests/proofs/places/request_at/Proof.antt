@@ -3,13 +3,13 @@
 use Prim.Native.Nat.{ℕ}
 use lib.Dec.{T, ltb}
 use borrow.Author.Needs.{needs}
-use Rattle.requests.proofs.PlaceLaws.{Lies, lies, read-place}
+use Rattle.requests.proofs.PlaceLaws.{WordIn, word-in, read-place}
 use Rattle.requests.proofs.places.request_at.Statement.{statement}
 use Rattle.requests.proofs.places.request_at.Tie as tie
 
 -- word i of the place
-word : (s : tie.Start) (i : ℕ) → T (ltb i 12) → Lies (s .args .region .now) (s .args .k) i
-word s i = lies (s .args .region .now) (s .args .k) i (s .pre)
+word : (s : tie.Start) (i : ℕ) → T (ltb i 12) → WordIn (s .args .region .now) (s .args .k) i
+word s i = word-in (s .args .region .now) (s .args .k) i (s .pre)
 
 -- the start, as seen from the word of the high end, and from that of the last mark
 abbrev from-half : tie.After-half → tie.Start
