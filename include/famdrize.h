@@ -1,7 +1,7 @@
 /* Famdrize: a store of 256 versioned entries, eight players with a cache each, and the sessions that record every step.
  *
- * The functions are those of the crate `exports`, proved against their contracts. `rt staticlib exports` makes the library to link,
- * target/staticlib/libexports.a (x86-64 Linux). docs/FORMATS.md gives every table, record and reply to the word and the byte.
+ * The functions are those of the crate `famdrize`, proved against their contracts. `rt staticlib famdrize` makes the library to link,
+ * target/staticlib/libfamdrize.a (x86-64 Linux). docs/FORMATS.md gives every table, record and reply to the word and the byte.
  *
  * Slices. A lent slice is a pointer and the number of its elements. The pointer is not null, also where the number is 0, and is aligned
  * as its elements are; the slices of one call do not overlap unless both are const. Nothing is kept after the call, nothing is allocated,

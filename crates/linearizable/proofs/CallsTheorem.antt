@@ -23,7 +23,7 @@ use Rattle.steps.proofs.LoopLaws.{replies-filled}
 use Rattle.steps.proofs.RanLaws.{ran-run}
 use Rattle.steps.proofs.FreshRuns.{counted}
 use Rattle.session.specs.Fields.{six}
-use Rattle.exports.proofs.CallLaws.{ByNumbers, takes, refuses, by-numbers}
+use Rattle.famdrize.proofs.CallLaws.{ByNumbers, takes, refuses, by-numbers}
 use Rattle.linearizable.specs.Tables.{store-in}
 use Rattle.linearizable.specs.Calls.{Call, a-step, exported-step, a-run, Handed, AllHanded, steps-of, left-by, replies-of, all-steps, all-replies, after-all, LinearizableCalls}
 use Rattle.linearizable.proofs.Theorem.{theorem}

@@ -14,7 +14,7 @@ use Rattle.session.specs.Records.{Bytes}
 use Rattle.session.specs.Runs.{steps, whole-places}
 use Rattle.steps.specs.RunCalls.{ran, replies-from}
 use Rattle.session.specs.Fields.{six}
-use Rattle.exports.specs.Calls.{stepped, step-taken}
+use Rattle.famdrize.specs.Calls.{stepped, step-taken}
 use Rattle.linearizable.specs.Claim.{LinearizableBy}
 use Rattle.linearizable.specs.Tables.{store-in, freshened}
 

@@ -1,6 +1,6 @@
 //! The proved library behind its exported calls (`include/famdrize.h`), as a [`Library`].
 //!
-//! The declarations are those of the crate `famdrize`, which links `target/staticlib/libexports.a`; its safe
+//! The declarations are those of the crate `famdrize`, which links `target/staticlib/libfamdrize.a`; its safe
 //! types are passed by here, as the comparison also hands in what they leave out.
 
 #![warn(missing_docs)]
