@@ -1,7 +1,8 @@
 /* Famdrize: a store of 256 versioned entries, eight players with a cache each, and the sessions that record every step.
  *
  * The functions are those of the crate `famdrize`, proved against their contracts. `rt staticlib famdrize` makes the library to link,
- * target/staticlib/libfamdrize.a (x86-64 Linux). docs/FORMATS.md gives every table, record and reply to the word and the byte.
+ * target/staticlib/libfamdrize.a (x86-64 Linux). docs/RULES.md says what every step does; docs/FORMATS.md gives every table, record and
+ * reply to the word and the byte.
  *
  * Slices. A lent slice is a pointer and the number of its elements. The pointer is not null, also where the number is 0, and is aligned
  * as its elements are; the slices of one call do not overlap unless both are const. Nothing is kept after the call, nothing is allocated,
@@ -19,12 +20,25 @@
 extern "C" {
 #endif
 
-/* Words of the two tables, places of the lent list of requests, bytes of the longest session and of the longest record. */
+/* The version of this header, and of the library that it is for. */
+#define FAMDRIZE_VERSION_MAJOR 0
+#define FAMDRIZE_VERSION_MINOR 2
+#define FAMDRIZE_VERSION_PATCH 0
+#define FAMDRIZE_VERSION "0.2.0"
+
+/* Words of the two tables; places of the lent list of requests; the last serial that can be issued. */
 #define FAMDRIZE_STORE_WORDS 1280
 #define FAMDRIZE_PLAYERS_WORDS 9473
 #define FAMDRIZE_REQUESTS 64
+#define FAMDRIZE_LAST_SERIAL 4000000
+
+/* Bytes of the longest session, of its mark and of the longest record; the most records that a session holds; words of one reply in the list
+ * of a run. */
 #define FAMDRIZE_SESSION_BYTES 16384
+#define FAMDRIZE_MARK_BYTES 4
 #define FAMDRIZE_RECORD_BYTES 8
+#define FAMDRIZE_SESSION_RECORDS 5460
+#define FAMDRIZE_REPLY_WORDS 3
 
 /* The kinds of steps. Beside each stand the fields it has; the others are 0. A range goes from entry `entry` up to, not including, `high`. */
 enum famdrize_kind {
@@ -43,39 +57,117 @@ enum famdrize_kind {
     FAMDRIZE_RESTART_PLAYER = 13  /* player */
 };
 
-/* What a reply's code says. Its two numbers a and b stand beside it. */
+/* The codes of replies, each with the reply's two numbers a and b, and of refusals, whose numbers are 0. The reasons for which a run stops
+ * are another list, below: a number may stand in both and mean two things. */
 enum famdrize_code {
     FAMDRIZE_DONE = 0,           /* 0, 0; of the store used alone and of the calls that write, what the call says */
     FAMDRIZE_ISSUED = 1,         /* serial, 0 */
-    FAMDRIZE_CACHE_READ = 2,     /* version, value: read from memory */
-    FAMDRIZE_STORE_READ = 3,     /* version, value: read from the store */
+    FAMDRIZE_CACHE_READ = 2,     /* version, value */
+    FAMDRIZE_STORE_READ = 3,     /* version, value */
     FAMDRIZE_COMMITTED = 4,      /* serial, value */
-    FAMDRIZE_REJECTED = 5,       /* serial, 0: turned back */
+    FAMDRIZE_REJECTED = 5,       /* serial, 0 */
     FAMDRIZE_GRANTED = 6,        /* serial, 0 */
     FAMDRIZE_NOT_HELD = 7,       /* serial, 0 */
     FAMDRIZE_LAYOUT_CHANGED = 8, /* serial, 0 */
-    FAMDRIZE_SPENT = 9,          /* of a run's report alone: the budget or the list's whole places are spent */
-    /* refusals: 0, 0 */
-    FAMDRIZE_TABLE_LENGTH = 21,      /* a table of the wrong length */
-    FAMDRIZE_TABLE_RULES = 22,       /* a table that breaks a rule */
-    FAMDRIZE_NO_MARK = 23,           /* the session's mark is wrong or missing */
-    FAMDRIZE_CUT_SHORT = 24,         /* a record cut short, or no byte */
-    FAMDRIZE_UNKNOWN_FIELD = 25,     /* bit 6 or 7 of a record's map stands */
-    FAMDRIZE_UNKNOWN_KIND = 26,      /* the kind is not 1 to 13 */
-    FAMDRIZE_WRONG_FIELDS = 27,      /* other fields than the kind's */
-    FAMDRIZE_OUT_OF_RANGE = 28,      /* player above 7, an empty range or one past 256, split or merge at entry 0 */
-    FAMDRIZE_NOT_OWNER = 29,         /* not owner of every entry */
-    FAMDRIZE_NO_LIVE_GUARD = 30,     /* no live guard */
-    FAMDRIZE_ALREADY_REQUESTED = 31, /* a pending guard request of this player shares an entry */
-    FAMDRIZE_NO_SUCH_REQUEST = 32,   /* no request that this step fits */
-    FAMDRIZE_NO_PLACE_LEFT = 33,     /* all 64 places are taken */
-    FAMDRIZE_NO_SERIAL_LEFT = 34,    /* serial 4,000,000 was issued */
-    FAMDRIZE_WRONG_BOUNDARY = 35,    /* split at a boundary, merge where none is */
-    FAMDRIZE_BUFFER_SHORT = 36,      /* a buffer shorter than what is to be written */
-    FAMDRIZE_SESSION_TOO_LONG = 37   /* a session of more than 16,384 bytes */
+
+    FAMDRIZE_TABLE_LENGTH = 21,
+    FAMDRIZE_TABLE_RULES = 22,
+    FAMDRIZE_NO_MARK = 23,
+    FAMDRIZE_CUT_SHORT = 24,
+    FAMDRIZE_UNKNOWN_FIELD = 25,
+    FAMDRIZE_UNKNOWN_KIND = 26,
+    FAMDRIZE_WRONG_FIELDS = 27,
+    FAMDRIZE_OUT_OF_RANGE = 28,
+    FAMDRIZE_NOT_OWNER = 29,
+    FAMDRIZE_NO_LIVE_GUARD = 30,
+    FAMDRIZE_ALREADY_REQUESTED = 31,
+    FAMDRIZE_NO_SUCH_REQUEST = 32,
+    FAMDRIZE_NO_PLACE_LEFT = 33,
+    FAMDRIZE_NO_SERIAL_LEFT = 34,
+    FAMDRIZE_WRONG_BOUNDARY = 35,
+    FAMDRIZE_BUFFER_SHORT = 36,
+    FAMDRIZE_SESSION_TOO_LONG = 37
 };
 
-/* A code and two numbers. */
+/* Why a run stopped. */
+enum famdrize_why {
+    FAMDRIZE_WHY_END = 0,
+    FAMDRIZE_WHY_SPENT = 9,
+    /* the run is refused: 0 records, place 0, nothing altered */
+    FAMDRIZE_WHY_TABLE_LENGTH = FAMDRIZE_TABLE_LENGTH,
+    FAMDRIZE_WHY_TABLE_RULES = FAMDRIZE_TABLE_RULES,
+    FAMDRIZE_WHY_NO_MARK = FAMDRIZE_NO_MARK,
+    FAMDRIZE_WHY_SESSION_TOO_LONG = FAMDRIZE_SESSION_TOO_LONG,
+    /* the record at the place is refused; the steps before it keep their effect */
+    FAMDRIZE_WHY_CUT_SHORT = FAMDRIZE_CUT_SHORT,
+    FAMDRIZE_WHY_UNKNOWN_FIELD = FAMDRIZE_UNKNOWN_FIELD,
+    FAMDRIZE_WHY_UNKNOWN_KIND = FAMDRIZE_UNKNOWN_KIND,
+    FAMDRIZE_WHY_WRONG_FIELDS = FAMDRIZE_WRONG_FIELDS
+};
+
+/* Functions that stand in this header, and not in the library. */
+#if defined(__cplusplus) || (defined(__STDC_VERSION__) && __STDC_VERSION__ >= 199901L)
+#define FAMDRIZE_INLINE static inline
+#elif defined(__GNUC__)
+#define FAMDRIZE_INLINE static __inline__
+#else
+#define FAMDRIZE_INLINE static
+#endif
+
+/* The words for the code of a reply or refusal; never null. */
+FAMDRIZE_INLINE const char *famdrize_code_words(uint32_t code)
+{
+    switch (code) {
+    case FAMDRIZE_DONE: return "done";
+    case FAMDRIZE_ISSUED: return "serial issued";
+    case FAMDRIZE_CACHE_READ: return "read from memory";
+    case FAMDRIZE_STORE_READ: return "read from the store";
+    case FAMDRIZE_COMMITTED: return "committed";
+    case FAMDRIZE_REJECTED: return "turned back";
+    case FAMDRIZE_GRANTED: return "guard granted";
+    case FAMDRIZE_NOT_HELD: return "not held";
+    case FAMDRIZE_LAYOUT_CHANGED: return "layout changed";
+    case FAMDRIZE_TABLE_LENGTH: return "a table of the wrong length";
+    case FAMDRIZE_TABLE_RULES: return "a table that breaks a rule";
+    case FAMDRIZE_NO_MARK: return "the session's mark is wrong or missing";
+    case FAMDRIZE_CUT_SHORT: return "a record cut short, or no byte";
+    case FAMDRIZE_UNKNOWN_FIELD: return "bit 6 or 7 of a record's map stands";
+    case FAMDRIZE_UNKNOWN_KIND: return "no such kind of step";
+    case FAMDRIZE_WRONG_FIELDS: return "the kind is missing, or other fields than the kind's";
+    case FAMDRIZE_OUT_OF_RANGE:
+        return "player above 7, an empty range or one past 256, split or merge at entry 0, or a serial out of range";
+    case FAMDRIZE_NOT_OWNER: return "not owner of every entry";
+    case FAMDRIZE_NO_LIVE_GUARD: return "no live guard";
+    case FAMDRIZE_ALREADY_REQUESTED: return "a pending guard request of this player shares an entry";
+    case FAMDRIZE_NO_SUCH_REQUEST: return "no request that this step fits";
+    case FAMDRIZE_NO_PLACE_LEFT: return "all 64 places for requests are taken";
+    case FAMDRIZE_NO_SERIAL_LEFT: return "the last serial, 4,000,000, was issued";
+    case FAMDRIZE_WRONG_BOUNDARY: return "split at a boundary, or merge where none is";
+    case FAMDRIZE_BUFFER_SHORT: return "a buffer shorter than what is to be written";
+    case FAMDRIZE_SESSION_TOO_LONG: return "a session of more than 16,384 bytes";
+    default: return "no code of a reply";
+    }
+}
+
+/* The words for the reason for which a run stopped; never null. */
+FAMDRIZE_INLINE const char *famdrize_why_words(uint32_t why)
+{
+    switch (why) {
+    case FAMDRIZE_WHY_END: return "at the session's end";
+    case FAMDRIZE_WHY_SPENT: return "the budget or the places for replies are spent";
+    case FAMDRIZE_WHY_TABLE_LENGTH:
+    case FAMDRIZE_WHY_TABLE_RULES:
+    case FAMDRIZE_WHY_NO_MARK:
+    case FAMDRIZE_WHY_SESSION_TOO_LONG:
+    case FAMDRIZE_WHY_CUT_SHORT:
+    case FAMDRIZE_WHY_UNKNOWN_FIELD:
+    case FAMDRIZE_WHY_UNKNOWN_KIND:
+    case FAMDRIZE_WHY_WRONG_FIELDS: return famdrize_code_words(why);
+    default: return "no reason of a run";
+    }
+}
+
+/* A code (enum famdrize_code) and two numbers. */
 typedef struct {
     uint32_t code;
     uint32_t a;
@@ -95,7 +187,7 @@ typedef struct {
     uint32_t serial;
 } famdrize_decoded;
 
-/* Why a run stopped, the number of records taken, and the byte place just after them. */
+/* Why a run stopped (enum famdrize_why), the number of records taken, and the byte place just after them. */
 typedef struct {
     uint32_t why;
     uint32_t records;

@@ -1,4 +1,4 @@
-/* The steps and calls of README.md from C: each reply as code, a and b. steps.txt is what it prints. */
+/* All calls from C: each reply as code, a and b, a refusal with its words. steps.txt is what it prints. */
 #include "famdrize.h"
 
 #include <stdio.h>
@@ -9,7 +9,10 @@ static famdrize_request requests[FAMDRIZE_REQUESTS];
 
 static void print(const char *name, famdrize_reply r)
 {
-    printf("%s %u %u %u\n", name, (unsigned)r.code, (unsigned)r.a, (unsigned)r.b);
+    printf("%s %u %u %u", name, (unsigned)r.code, (unsigned)r.a, (unsigned)r.b);
+    if (r.code >= FAMDRIZE_TABLE_LENGTH)
+        printf(": %s", famdrize_code_words(r.code));
+    putchar('\n');
 }
 
 static famdrize_reply step(uint8_t kind, uint8_t player, uint8_t entry, uint16_t high, uint32_t value, uint32_t serial)
@@ -49,18 +52,19 @@ static void store_alone(void)
 
 static void records(void)
 {
-    uint8_t session[4 + FAMDRIZE_RECORD_BYTES];
+    uint8_t session[FAMDRIZE_MARK_BYTES + FAMDRIZE_RECORD_BYTES];
     uint8_t empty[1];
     famdrize_decoded d;
 
     print("mark", famdrize_put_mark(session, sizeof session));
-    print("encode", famdrize_encode(FAMDRIZE_WRITE, 0, 45, 0, 7, 0, session + 4, sizeof session - 4));
+    print("encode", famdrize_encode(FAMDRIZE_WRITE, 0, 45, 0, 7, 0, session + FAMDRIZE_MARK_BYTES, sizeof session - FAMDRIZE_MARK_BYTES));
     for (size_t i = 0; i < sizeof session; i++)
         printf("%02X%s", session[i], i + 1 < sizeof session ? " " : "\n");
-    d = famdrize_decode(session + 4, sizeof session - 4);
+    d = famdrize_decode(session + FAMDRIZE_MARK_BYTES, sizeof session - FAMDRIZE_MARK_BYTES);
     printf("decode %u, %u bytes: %u %u %u %u %u %u\n", (unsigned)d.code, (unsigned)d.length, (unsigned)d.kind, (unsigned)d.player,
            (unsigned)d.entry, (unsigned)d.high, (unsigned)d.value, (unsigned)d.serial);
-    printf("decode no byte: %u\n", (unsigned)famdrize_decode(empty, 0).code);
+    d = famdrize_decode(empty, 0);
+    printf("decode no byte: %u, %s\n", (unsigned)d.code, famdrize_code_words(d.code));
     printf("marked %d %d\n", famdrize_marked(session, sizeof session), famdrize_marked(session, 3));
 }
 
@@ -82,13 +86,14 @@ static void run(void)
                                       0x0F, 0x01, 0x00, 0x28, 0x3C, 0x00,    /* assign */
                                       0x0F, 0x03, 0x00, 0x28, 0x3C, 0x00,    /* ask for a guard */
                                       0x21, 0x06, 0x02, 0x00, 0x00, 0x00};   /* arrive */
-    uint32_t replies[3 * 3] = {0};
+    enum { PLACES = 3, WORDS = PLACES * FAMDRIZE_REPLY_WORDS };
+    uint32_t replies[WORDS] = {0};
     famdrize_report r;
 
     famdrize_fresh(store, FAMDRIZE_STORE_WORDS, players, FAMDRIZE_PLAYERS_WORDS);
-    r = famdrize_run(store, FAMDRIZE_STORE_WORDS, players, FAMDRIZE_PLAYERS_WORDS, session, sizeof session, 2, replies, 9);
-    printf("run %u %u %u\n", (unsigned)r.why, (unsigned)r.records, (unsigned)r.place);
-    for (size_t i = 0; i < 9; i += 3)
+    r = famdrize_run(store, FAMDRIZE_STORE_WORDS, players, FAMDRIZE_PLAYERS_WORDS, session, sizeof session, 2, replies, WORDS);
+    printf("run %u %u %u: %s\n", (unsigned)r.why, (unsigned)r.records, (unsigned)r.place, famdrize_why_words(r.why));
+    for (size_t i = 0; i < WORDS; i += FAMDRIZE_REPLY_WORDS)
         printf("reply %u %u %u\n", (unsigned)replies[i], (unsigned)replies[i + 1], (unsigned)replies[i + 2]);
 }
 
