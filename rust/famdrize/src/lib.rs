@@ -5,7 +5,8 @@
 //! rules are those of the repository's README and docs/FORMATS.md. The types here leave out what the library would refuse: tables have
 //! their lengths and keep their rules, a [`Player`] is 0 to 7, a [`Range`] is not empty.
 //!
-//! ```
+#![cfg_attr(feature = "alloc", doc = "```")]
+#![cfg_attr(not(feature = "alloc"), doc = "```ignore")]
 //! use famdrize::{Player, Range, Reply, Step, Tables};
 //!
 //! let player = Player::new(0).unwrap();
@@ -16,13 +17,37 @@
 //! assert_eq!(tables.step(Step::Deliver { serial: 2 }), Reply::Done);
 //! assert_eq!(tables.step(Step::Respond { serial: 2 }), Reply::StoreRead { version: 0, value: 0 });
 //! ```
-#![warn(missing_docs)]
+//!
+//! # Owned and lent
+//!
+//! `Tables`, `Store` and `Session` own their words and bytes, on the heap: they need the feature `alloc`, which is on by default.
+//! [`TablesMut`], [`StoreMut`] and [`SessionMut`] have the same calls over arrays and buffers that the caller lends, and need no heap; the
+//! crate is `no_std`. The words of a table change by calls alone in either form, so they keep their rules.
+//!
+//! # Refusals
+//!
+//! A call that can be refused gives a [`Refusal`], and alters nothing then. A refused step is a [`Reply`] like another, since a session holds
+//! it and a run goes on after it; [`Reply::into_result`] makes an error of it.
+//!
+//! # Later versions
+//!
+//! Kinds of steps, replies, refusals and words of the players' table will be added. So the enums are `non_exhaustive`, and the lengths are to
+//! be named: [`STORE_WORDS`], [`PLAYERS_WORDS`].
+#![no_std]
+#![warn(missing_docs, clippy::undocumented_unsafe_blocks)]
 
-#[allow(missing_docs)]
+#[cfg(feature = "alloc")]
+extern crate alloc;
+#[cfg(test)]
+extern crate std;
+
 pub mod raw;
 
 mod numbers;
+#[cfg(feature = "alloc")]
+mod owned;
 mod reply;
+mod report;
 mod requests;
 mod session;
 mod step;
@@ -30,9 +55,18 @@ mod store;
 mod tables;
 
 pub use numbers::{Player, Range, Serial};
-pub use reply::{Refusal, Reply, Report, Why};
-pub use requests::{pending, Request};
-pub use session::{decode, encode, is_marked, put_mark, Record, Session};
+#[cfg(feature = "alloc")]
+pub use owned::{Session, Store, Tables};
+pub use reply::{Refusal, Reply};
+pub use report::{Report, Why};
+pub use requests::{pending, Request, REQUESTS};
+pub use session::{decode, encode, is_marked, put_mark, Record, SessionMut};
+pub use session::{MOST_RECORDS, RECORD_BYTES, SESSION_BYTES};
 pub use step::{Fields, Step};
-pub use store::{GuardOutcome, Store, Versioned, WriteOutcome};
-pub use tables::Tables;
+pub use store::{GuardOutcome, StoreMut, Versioned, WriteOutcome, STORE_WORDS};
+pub use tables::{TablesMut, PLAYERS_WORDS};
+
+/// The programs of the README, which are tested as they stand there.
+#[cfg(all(doctest, feature = "alloc"))]
+#[doc = include_str!("../README.md")]
+struct Readme;

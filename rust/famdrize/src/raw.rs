@@ -8,8 +8,11 @@
 #[repr(C)]
 #[derive(Clone, Copy, Debug, PartialEq, Eq)]
 pub struct Reply {
+    /// What became of the call: 0 to 8, or the number of a refusal.
     pub code: u32,
+    /// The first number.
     pub a: u32,
+    /// The second number.
     pub b: u32,
 }
 
@@ -17,13 +20,21 @@ pub struct Reply {
 #[repr(C)]
 #[derive(Clone, Copy, Debug, PartialEq, Eq)]
 pub struct Decoded {
+    /// 0, or the number of a refusal.
     pub code: u32,
+    /// Bytes of the record, 3 to 8.
     pub length: u32,
+    /// The kind of step.
     pub kind: u32,
+    /// The player.
     pub player: u32,
+    /// The entry, or a range's low.
     pub entry: u32,
+    /// A range's high.
     pub high: u32,
+    /// The value written.
     pub value: u32,
+    /// The request's serial.
     pub serial: u32,
 }
 
@@ -31,8 +42,11 @@ pub struct Decoded {
 #[repr(C)]
 #[derive(Clone, Copy, Debug, PartialEq, Eq)]
 pub struct Report {
+    /// 0 at the end, 9 where budget or list is spent, or the number of a refusal.
     pub why: u32,
+    /// The number of records taken.
     pub records: u32,
+    /// The byte place just after them.
     pub place: u32,
 }
 
@@ -40,37 +54,48 @@ pub struct Report {
 #[repr(C)]
 #[derive(Clone, Copy, Debug, Default, PartialEq, Eq)]
 pub struct Request<Mark = u8> {
+    /// Its serial, 0 where the place is not used.
     pub serial: u32,
+    /// Whose it is.
     pub player: u8,
     /// 3 guard request, 4 read, 5 write.
     pub kind: u8,
     /// The entry of a read or write, the first entry of a guard request.
     pub low: u8,
+    /// The number after the last entry of a guard request, else 0.
     pub high: u16,
+    /// The value of a write, else 0.
     pub value: u32,
     /// The guard carried.
     pub guard: u32,
+    /// Whether a write of the same player on the entry crossed it.
     pub overlapped: Mark,
+    /// Whether it arrived at the store.
     pub delivered: Mark,
+    /// Whether its player gave it up.
     pub abandoned: Mark,
     /// The outcome: 1 or 2 and 0, of a read its version and value.
     pub first: u32,
+    /// The second number of the outcome.
     pub second: u32,
 }
 
 extern "C" {
+    /// Makes both tables fresh: 0 0 0, or 21.
     pub fn famdrize_fresh(
         store: *mut u32,
         store_words: usize,
         players: *mut u32,
         players_words: usize,
     ) -> Reply;
+    /// Whether both tables keep the rules: 0 0 0, or 21, 22.
     pub fn famdrize_check(
         store: *const u32,
         store_words: usize,
         players: *const u32,
         players_words: usize,
     ) -> Reply;
+    /// Takes the step of this kind with these fields: 26, 27, then what the step replies.
     pub fn famdrize_step(
         store: *mut u32,
         store_words: usize,
@@ -83,6 +108,7 @@ extern "C" {
         value: u32,
         serial: u32,
     ) -> Reply;
+    /// Takes the steps of a session, and puts their replies into the list, three words each.
     pub fn famdrize_run(
         store: *mut u32,
         store_words: usize,
@@ -95,7 +121,9 @@ extern "C" {
         replies_words: usize,
     ) -> Report;
 
+    /// The record at the start of these bytes.
     pub fn famdrize_decode(part: *const u8, part_bytes: usize) -> Decoded;
+    /// Writes a record to the start of the buffer: 0, its length, 0; or 26, 27, 36.
     pub fn famdrize_encode(
         kind: u8,
         player: u8,
@@ -106,14 +134,21 @@ extern "C" {
         out: *mut u8,
         out_bytes: usize,
     ) -> Reply;
+    /// Writes the session's mark to the start of the buffer: 0 4 0, or 36.
     pub fn famdrize_put_mark(out: *mut u8, out_bytes: usize) -> Reply;
+    /// Whether the session begins with the mark.
     pub fn famdrize_marked(session: *const u8, session_bytes: usize) -> bool;
 
+    /// How many pending requests of the player the list holds: 0, count, 0; or 21, 28.
     pub fn famdrize_waiting(requests: *const Request, requests_places: usize, player: u8) -> Reply;
 
+    /// Makes the table of a store used alone fresh: 0 0 0, or 21.
     pub fn famdrize_store_fresh(store: *mut u32, store_words: usize) -> Reply;
+    /// Whether the table keeps the rules: 0 0 0, or 21, 22.
     pub fn famdrize_store_check(store: *const u32, store_words: usize) -> Reply;
+    /// The same, where `last` is the last serial issued.
     pub fn famdrize_store_check_at(store: *const u32, store_words: usize, last: u32) -> Reply;
+    /// Sets a guard: 0 1 0; 0 2 0 where the range does not lie in one tablet; or 21, 22, 28.
     pub fn famdrize_store_set_guard(
         store: *mut u32,
         store_words: usize,
@@ -121,7 +156,9 @@ extern "C" {
         high: u16,
         serial: u32,
     ) -> Reply;
+    /// The entry's version and value: 0, version, value; or 21, 22.
     pub fn famdrize_store_read(store: *const u32, store_words: usize, entry: u8) -> Reply;
+    /// A write that carries a guard: 0 1 0 where it commits, else 0 2 0; or 21, 22, 28.
     pub fn famdrize_store_write(
         store: *mut u32,
         store_words: usize,
@@ -130,7 +167,10 @@ extern "C" {
         serial: u32,
         guard: u32,
     ) -> Reply;
+    /// Sets a boundary before the entry: 0 0 0; or 21, 22, 28, 35.
     pub fn famdrize_store_split(store: *mut u32, store_words: usize, entry: u8) -> Reply;
+    /// Removes the boundary before the entry: 0 0 0; or 21, 22, 28, 35.
     pub fn famdrize_store_merge(store: *mut u32, store_words: usize, entry: u8) -> Reply;
+    /// The guards of the tablet that holds the entry become 0: 0 0 0; or 21, 22.
     pub fn famdrize_store_restart(store: *mut u32, store_words: usize, entry: u8) -> Reply;
 }

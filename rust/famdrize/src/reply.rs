@@ -1,11 +1,27 @@
-//! Replies and refusals, by name and by number.
+//! Replies and refusals, by name, by number and in words.
 
-use std::fmt;
+use core::fmt;
 
 use crate::raw;
 
 /// What a step replies.
-#[derive(Clone, Copy, Debug, PartialEq, Eq)]
+///
+/// A refused step is a reply too; [`Reply::into_result`] makes an error of it, for `?`:
+///
+/// ```
+/// use famdrize::{Refusal, Reply, Step, TablesMut};
+/// # let (mut store, mut players) = ([0; famdrize::STORE_WORDS], [0; famdrize::PLAYERS_WORDS]);
+/// # let mut tables = TablesMut::fresh(&mut store, &mut players);
+///
+/// let reply = tables.step(Step::Split { entry: 128 }).into_result()?;
+/// assert_eq!(reply, Reply::Done);
+/// let again = tables.step(Step::Split { entry: 128 }).into_result();
+/// assert_eq!(again, Err(Refusal::WrongBoundary));
+/// # Ok::<(), Refusal>(())
+/// ```
+#[derive(Clone, Copy, Debug, PartialEq, Eq, Hash)]
+#[non_exhaustive]
+#[must_use = "the step may be refused"]
 pub enum Reply {
     /// 0: done.
     Done,
@@ -55,12 +71,13 @@ pub enum Reply {
         /// The request's serial.
         serial: u32,
     },
-    /// 21 to 37: the step is refused, and nothing is altered.
+    /// A refusal's number: the step is refused, and nothing is altered.
     Refused(Refusal),
 }
 
 impl Reply {
     /// The reply of these numbers; none if no reply has them.
+    #[must_use]
     pub fn from_numbers(numbers: [u32; 3]) -> Option<Reply> {
         Some(match numbers {
             [0, 0, 0] => Reply::Done,
@@ -78,7 +95,8 @@ impl Reply {
     }
 
     /// Its code and two numbers.
-    pub fn numbers(self) -> [u32; 3] {
+    #[must_use]
+    pub const fn numbers(self) -> [u32; 3] {
         match self {
             Reply::Done => [0, 0, 0],
             Reply::Issued { serial } => [1, serial, 0],
@@ -93,139 +111,123 @@ impl Reply {
         }
     }
 
-    /// A step's reply, which has one of the codes above by the library's contract.
-    pub(crate) fn of_step(r: raw::Reply) -> Reply {
-        Reply::from_numbers([r.code, r.a, r.b])
-            .expect("a step's reply has code 0 to 8, or a refusal's")
-    }
-}
-
-/// What a run reports.
-#[derive(Clone, Copy, Debug, PartialEq, Eq)]
-pub struct Report {
-    /// Why it stopped.
-    pub why: Why,
-    /// The number of records taken.
-    pub records: u32,
-    /// The byte place just after them; 0 of a refused run.
-    pub place: u32,
-}
-
-/// Why a run stopped.
-#[derive(Clone, Copy, Debug, PartialEq, Eq)]
-pub enum Why {
-    /// 0: at the session's end.
-    End,
-    /// 9: the budget or the places for replies are spent.
-    Spent,
-    /// 23 or 37: the run is refused, and nothing is altered; 24 to 27: the record at the place is refused, and the steps before it keep
-    /// their effect.
-    Refused(Refusal),
-}
-
-impl Why {
-    /// Its number.
-    pub fn number(self) -> u32 {
+    /// What its code says, without its numbers.
+    #[must_use]
+    pub const fn words(self) -> &'static str {
         match self {
-            Why::End => 0,
-            Why::Spent => 9,
-            Why::Refused(refusal) => refusal.number(),
+            Reply::Done => "done",
+            Reply::Issued { .. } => "serial issued",
+            Reply::CacheRead { .. } => "read from memory",
+            Reply::StoreRead { .. } => "read from the store",
+            Reply::Committed { .. } => "committed",
+            Reply::Rejected { .. } => "turned back",
+            Reply::Granted { .. } => "guard granted",
+            Reply::NotHeld { .. } => "not held",
+            Reply::LayoutChanged { .. } => "layout changed",
+            Reply::Refused(refusal) => refusal.words(),
         }
     }
 
-    /// The reason of this number; none if no run stops for it.
-    pub fn from_number(number: u32) -> Option<Why> {
-        match number {
-            0 => Some(Why::End),
-            9 => Some(Why::Spent),
-            _ => Refusal::from_number(number).map(Why::Refused),
+    /// The reply to a step that is not refused.
+    ///
+    /// # Errors
+    ///
+    /// The refusal of a refused step.
+    pub const fn into_result(self) -> Result<Reply, Refusal> {
+        match self {
+            Reply::Refused(refusal) => Err(refusal),
+            reply => Ok(reply),
+        }
+    }
+
+    /// A step's reply, which has one of the codes above by the library's contract.
+    pub(crate) fn of_step(numbers: [u32; 3]) -> Reply {
+        Reply::from_numbers(numbers).expect("a step's reply has the code of a reply or a refusal")
+    }
+}
+
+impl fmt::Display for Reply {
+    fn fmt(&self, f: &mut fmt::Formatter<'_>) -> fmt::Result {
+        let words = self.words();
+        match *self {
+            Reply::Done => f.write_str(words),
+            Reply::Issued { serial } => write!(f, "serial {serial} issued"),
+            Reply::CacheRead { version, value } | Reply::StoreRead { version, value } => {
+                write!(f, "{words}: version {version}, value {value}")
+            }
+            Reply::Committed { serial, value } => {
+                write!(f, "{words}: serial {serial}, value {value}")
+            }
+            Reply::Rejected { serial }
+            | Reply::Granted { serial }
+            | Reply::NotHeld { serial }
+            | Reply::LayoutChanged { serial } => write!(f, "{words}: serial {serial}"),
+            Reply::Refused(refusal) => write!(f, "refused: {refusal}"),
         }
     }
 }
 
-impl Report {
-    /// A run's report, which has one of the reasons above by the library's contract.
-    pub(crate) fn of_run(r: raw::Report) -> Report {
-        let why = Why::from_number(r.why).expect("a run stops with 0, 9 or a refusal's number");
-        Report {
-            why,
-            records: r.records,
-            place: r.place,
+/// The refusals, each declared once: its name, its number and what that says.
+macro_rules! refusals {
+    ($($name:ident = $number:literal, $words:literal;)*) => {
+        /// Why a call is refused.
+        #[derive(Clone, Copy, Debug, PartialEq, Eq, Hash)]
+        #[non_exhaustive]
+        #[repr(u32)]
+        pub enum Refusal {
+            $(
+                #[doc = concat!($number, ": ", $words, ".")]
+                $name = $number,
+            )*
         }
-    }
+
+        impl Refusal {
+            /// All, in the order of their numbers.
+            pub const ALL: &'static [Refusal] = &[$(Refusal::$name),*];
+
+            /// What its number says.
+            #[must_use]
+            pub const fn words(self) -> &'static str {
+                match self {
+                    $(Refusal::$name => $words,)*
+                }
+            }
+        }
+    };
 }
 
-/// Why a call is refused.
-#[derive(Clone, Copy, Debug, PartialEq, Eq, Hash)]
-#[repr(u32)]
-pub enum Refusal {
-    /// 21: a table of the wrong length.
-    TableLength = 21,
-    /// 22: a table that breaks a rule.
-    TableRules = 22,
-    /// 23: the session's mark is wrong or missing.
-    NoMark = 23,
-    /// 24: a record cut short, or no byte.
-    CutShort = 24,
-    /// 25: bit 6 or 7 of a record's map stands.
-    UnknownField = 25,
-    /// 26: there is no such kind of step.
-    UnknownKind = 26,
-    /// 27: the kind is missing, or other fields than the kind's.
-    WrongFields = 27,
-    /// 28: player above 7, an empty range or one past 256, split or merge at entry 0.
-    OutOfRange = 28,
-    /// 29: not owner of every entry.
-    NotOwner = 29,
-    /// 30: no live guard.
-    NoLiveGuard = 30,
-    /// 31: a pending guard request of this player shares an entry.
-    AlreadyRequested = 31,
-    /// 32: no request that this step fits.
-    NoSuchRequest = 32,
-    /// 33: all 64 places for requests are taken.
-    NoPlaceLeft = 33,
-    /// 34: the last serial, 4,000,000, was issued.
-    NoSerialLeft = 34,
-    /// 35: split at a boundary, merge where none is.
-    WrongBoundary = 35,
-    /// 36: a buffer shorter than what is to be written.
-    BufferShort = 36,
-    /// 37: a session of more than 16,384 bytes.
-    SessionTooLong = 37,
+refusals! {
+    TableLength = 21, "a table of the wrong length";
+    TableRules = 22, "a table that breaks a rule";
+    NoMark = 23, "the session's mark is wrong or missing";
+    CutShort = 24, "a record cut short, or no byte";
+    UnknownField = 25, "bit 6 or 7 of a record's map stands";
+    UnknownKind = 26, "no such kind of step";
+    WrongFields = 27, "the kind is missing, or other fields than the kind's";
+    OutOfRange = 28, "player above 7, an empty range or one past 256, split or merge at entry 0, or a serial out of range";
+    NotOwner = 29, "not owner of every entry";
+    NoLiveGuard = 30, "no live guard";
+    AlreadyRequested = 31, "a pending guard request of this player shares an entry";
+    NoSuchRequest = 32, "no request that this step fits";
+    NoPlaceLeft = 33, "all 64 places for requests are taken";
+    NoSerialLeft = 34, "the last serial, 4,000,000, was issued";
+    WrongBoundary = 35, "split at a boundary, or merge where none is";
+    BufferShort = 36, "a buffer shorter than what is to be written";
+    SessionTooLong = 37, "a session of more than 16,384 bytes";
 }
 
 impl Refusal {
-    /// All, in the order of their numbers.
-    pub const ALL: [Refusal; 17] = [
-        Refusal::TableLength,
-        Refusal::TableRules,
-        Refusal::NoMark,
-        Refusal::CutShort,
-        Refusal::UnknownField,
-        Refusal::UnknownKind,
-        Refusal::WrongFields,
-        Refusal::OutOfRange,
-        Refusal::NotOwner,
-        Refusal::NoLiveGuard,
-        Refusal::AlreadyRequested,
-        Refusal::NoSuchRequest,
-        Refusal::NoPlaceLeft,
-        Refusal::NoSerialLeft,
-        Refusal::WrongBoundary,
-        Refusal::BufferShort,
-        Refusal::SessionTooLong,
-    ];
-
     /// Its number.
+    #[must_use]
     pub const fn number(self) -> u32 {
         self as u32
     }
 
-    /// The refusal of this number; none if it is not 21 to 37.
+    /// The refusal of this number; none if no refusal has it.
+    #[must_use]
     pub fn from_number(number: u32) -> Option<Refusal> {
-        let place = number.checked_sub(21)?;
-        Refusal::ALL.get(usize::try_from(place).ok()?).copied()
+        let mut all = Refusal::ALL.iter().copied();
+        all.find(|refusal| refusal.number() == number)
     }
 
     /// The code of a call that can only be done or refused: 0, or the refusal's number by the library's contract.
@@ -237,36 +239,25 @@ impl Refusal {
     }
 }
 
+/// The two numbers of a call that is not refused, by the library's contract: its tables have their lengths and keep their rules.
+pub(crate) fn accepted(reply: raw::Reply) -> [u32; 2] {
+    assert_eq!(reply.code, 0, "tables that keep their rules are accepted");
+    [reply.a, reply.b]
+}
+
 impl fmt::Display for Refusal {
     fn fmt(&self, f: &mut fmt::Formatter<'_>) -> fmt::Result {
-        let what = match self {
-            Refusal::TableLength => "a table of the wrong length",
-            Refusal::TableRules => "a table that breaks a rule",
-            Refusal::NoMark => "the session's mark is wrong or missing",
-            Refusal::CutShort => "a record cut short, or no byte",
-            Refusal::UnknownField => "a record with an unknown field",
-            Refusal::UnknownKind => "an unknown kind of step",
-            Refusal::WrongFields => "other fields than the kind's",
-            Refusal::OutOfRange => "a player, range or entry out of range",
-            Refusal::NotOwner => "not owner of every entry",
-            Refusal::NoLiveGuard => "no live guard",
-            Refusal::AlreadyRequested => "a pending guard request shares an entry",
-            Refusal::NoSuchRequest => "no request that this step fits",
-            Refusal::NoPlaceLeft => "no place left for a request",
-            Refusal::NoSerialLeft => "no serial left",
-            Refusal::WrongBoundary => "split at a boundary, or merge where none is",
-            Refusal::BufferShort => "a buffer too short",
-            Refusal::SessionTooLong => "a session too long",
-        };
-        write!(f, "{what} ({})", self.number())
+        write!(f, "{} ({})", self.words(), self.number())
     }
 }
 
-impl std::error::Error for Refusal {}
+impl core::error::Error for Refusal {}
 
 #[cfg(test)]
 mod tests {
     use super::*;
+    use std::format;
+    use std::string::ToString;
 
     #[test]
     fn refusals_have_their_numbers() {
@@ -331,23 +322,82 @@ mod tests {
     }
 
     #[test]
-    fn reasons_to_stop_and_their_numbers() {
-        for (why, number) in [
-            (Why::End, 0),
-            (Why::Spent, 9),
-            (Why::Refused(Refusal::NoMark), 23),
-            (Why::Refused(Refusal::CutShort), 24),
-        ] {
-            assert_eq!(why.number(), number);
-            assert_eq!(Why::from_number(number), Some(why));
-        }
-        for number in [1, 8, 10, 20, 38] {
-            assert_eq!(Why::from_number(number), None);
+    fn a_refusal_says_its_number() {
+        assert_eq!(Refusal::NoLiveGuard.to_string(), "no live guard (30)");
+    }
+
+    #[test]
+    fn refusals_have_their_words() {
+        let told = [
+            (21, "a table of the wrong length"),
+            (22, "a table that breaks a rule"),
+            (23, "the session's mark is wrong or missing"),
+            (24, "a record cut short, or no byte"),
+            (25, "bit 6 or 7 of a record's map stands"),
+            (26, "no such kind of step"),
+            (27, "the kind is missing, or other fields than the kind's"),
+            (28, "player above 7, an empty range or one past 256, split or merge at entry 0, or a serial out of range"),
+            (29, "not owner of every entry"),
+            (30, "no live guard"),
+            (31, "a pending guard request of this player shares an entry"),
+            (32, "no request that this step fits"),
+            (33, "all 64 places for requests are taken"),
+            (34, "the last serial, 4,000,000, was issued"),
+            (35, "split at a boundary, or merge where none is"),
+            (36, "a buffer shorter than what is to be written"),
+            (37, "a session of more than 16,384 bytes"),
+        ];
+        assert_eq!(told.len(), Refusal::ALL.len());
+        for (refusal, (number, words)) in Refusal::ALL.iter().zip(told) {
+            assert_eq!((refusal.number(), refusal.words()), (number, words));
+            assert_eq!(refusal.to_string(), format!("{words} ({number})"));
         }
     }
 
     #[test]
-    fn a_refusal_says_its_number() {
-        assert_eq!(Refusal::NoLiveGuard.to_string(), "no live guard (30)");
+    fn replies_are_told_in_words() {
+        for (numbers, words, text) in [
+            ([0, 0, 0], "done", "done"),
+            ([1, 2, 0], "serial issued", "serial 2 issued"),
+            (
+                [2, 3, 7],
+                "read from memory",
+                "read from memory: version 3, value 7",
+            ),
+            (
+                [3, 0, 0],
+                "read from the store",
+                "read from the store: version 0, value 0",
+            ),
+            ([4, 3, 7], "committed", "committed: serial 3, value 7"),
+            ([5, 3, 0], "turned back", "turned back: serial 3"),
+            ([6, 2, 0], "guard granted", "guard granted: serial 2"),
+            ([7, 2, 0], "not held", "not held: serial 2"),
+            ([8, 2, 0], "layout changed", "layout changed: serial 2"),
+            ([30, 0, 0], "no live guard", "refused: no live guard (30)"),
+        ] {
+            let reply = Reply::from_numbers(numbers).unwrap();
+            assert_eq!((reply.words(), reply.to_string().as_str()), (words, text));
+        }
+    }
+
+    #[test]
+    fn a_refused_reply_alone_is_an_error() {
+        for code in 0..=100 {
+            let Some(reply) = Reply::from_numbers([code, 0, 0]) else {
+                continue;
+            };
+            match reply.into_result() {
+                Ok(same) => assert_eq!((same, code < 9), (reply, true)),
+                Err(refusal) => {
+                    assert_eq!((Reply::Refused(refusal), code > 20), (reply, true));
+                }
+            }
+        }
+        let reply = Reply::CacheRead {
+            version: 3,
+            value: 9,
+        };
+        assert_eq!(reply.into_result(), Ok(reply));
     }
 }

@@ -1,13 +1,27 @@
 //! The requests in flight as a lent list of records.
 
-use crate::{raw, Player, Refusal};
+use core::array;
+
+use crate::{raw, Player, Refusal, PLAYERS_WORDS};
+
+/// Places for requests in flight.
+pub const REQUESTS: usize = 64;
+
+/// The first word of the requests region in the players' table, and the words of a place of it.
+const REGION: usize = 8705;
+const PLACE_WORDS: usize = 12;
 
 /// A request in flight, with marks that stand or do not; a place that is not used has serial 0.
 pub type Request = raw::Request<bool>;
 
+/// The places for requests of a players' table that keeps its rules.
+pub(crate) fn in_table(players: &[u32; PLAYERS_WORDS]) -> [Request; REQUESTS] {
+    array::from_fn(|i| Request::from_words(&players[REGION + PLACE_WORDS * i..][..PLACE_WORDS]))
+}
+
 impl Request {
     /// The request of a place of the players' table: 12 words of a table that keeps its rules, so each fits its field.
-    pub(crate) fn from_words(words: &[u32]) -> Request {
+    fn from_words(words: &[u32]) -> Request {
         let byte =
             |at: usize| u8::try_from(words[at]).expect("a word of a table that keeps its rules");
         Request {
@@ -27,7 +41,11 @@ impl Request {
     }
 }
 
-/// How many pending requests of the player stand in a list; 21 unless it has 64 places. Nothing else is tested.
+/// How many pending requests of the player stand in a list. Nothing but its length is tested.
+///
+/// # Errors
+///
+/// 21 unless the list has [`REQUESTS`] places.
 pub fn pending(requests: &[Request], player: Player) -> Result<u32, Refusal> {
     // SAFETY: a slice with its length, of a type laid out as the library's: a bool is one byte, 0 or 1.
     let reply =
@@ -40,6 +58,7 @@ pub fn pending(requests: &[Request], player: Player) -> Result<u32, Refusal> {
 mod tests {
     use super::*;
     use std::mem::{align_of, offset_of, size_of};
+    use std::vec;
 
     /// Size, alignment, and the offset of each field.
     fn layout<Mark>() -> [usize; 14] {

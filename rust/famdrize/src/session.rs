@@ -1,37 +1,62 @@
-//! Records, and sessions made of them.
+//! Records, and sessions made of them in a lent buffer.
 
-use crate::{raw, Fields, Refusal, Step};
+use crate::{raw, Fields, Refusal};
+
+/// Bytes of the longest session.
+pub const SESSION_BYTES: usize = 16_384;
+
+/// Bytes of the longest record.
+pub const RECORD_BYTES: usize = 8;
+
+/// The most records that a session holds: 16,380 bytes of three each.
+pub const MOST_RECORDS: usize = 5460;
 
 /// What stands at a place of a session.
-#[derive(Clone, Copy, Debug, PartialEq, Eq)]
+#[derive(Clone, Copy, Debug, PartialEq, Eq, Hash)]
+#[non_exhaustive]
 pub struct Record {
-    /// The step by its fields. A record may hold a step that is refused; [`Step::try_from`] tells.
+    /// The step by its fields. A record may hold a step that is refused; [`Step::try_from`](crate::Step) tells.
     pub fields: Fields,
     /// Its bytes, 3 to 8.
     pub length: usize,
 }
 
-/// The record at the start of these bytes; bytes after it are ignored. 24 if there is no byte, 25, 24, 27 if the kind is missing, 26, 27.
+/// The record at the start of these bytes; bytes after it are ignored.
+///
+/// # Errors
+///
+/// The first that applies: 24 if there is no byte, 25, 24 if the record is cut short, 27 if the kind is missing, 26, 27.
 pub fn decode(part: &[u8]) -> Result<Record, Refusal> {
-    // SAFETY: a slice with its length.
+    // SAFETY: a slice with its length, lent to be read.
     let r = unsafe { raw::famdrize_decode(part.as_ptr(), part.len()) };
     Refusal::of_code(r.code)?;
-    let byte = |number: u32| u8::try_from(number).expect("a field of one byte");
-    Ok(Record {
-        fields: Fields {
-            kind: byte(r.kind),
-            player: byte(r.player),
-            entry: byte(r.entry),
-            high: u16::try_from(r.high).expect("a field of two bytes"),
-            value: r.value,
-            serial: r.serial,
-        },
-        length: r.length as usize,
-    })
+    Ok(Record::of_decoded(r))
 }
 
-/// Writes the record of a step, or of fields, to the start of the buffer, keeps what follows, and tells its length: 26 and 27 for fields
-/// that are no step's, 36 for a buffer that is shorter. A step that would be refused can be written.
+impl Record {
+    /// The record of these numbers, which have the widths of their fields by the library's contract.
+    fn of_decoded(r: raw::Decoded) -> Record {
+        let byte = |number: u32| u8::try_from(number).expect("a field of one byte");
+        Record {
+            fields: Fields {
+                kind: byte(r.kind),
+                player: byte(r.player),
+                entry: byte(r.entry),
+                high: u16::try_from(r.high).expect("a field of two bytes"),
+                value: r.value,
+                serial: r.serial,
+            },
+            length: r.length as usize,
+        }
+    }
+}
+
+/// Writes the record of a step, or of fields, to the start of the buffer, keeps what follows, and tells its length. A step that would be
+/// refused can be written.
+///
+/// # Errors
+///
+/// 26 and 27 for fields that are no step's, 36 for a buffer that is shorter; the buffer is kept then.
 pub fn encode(step: impl Into<Fields>, out: &mut [u8]) -> Result<usize, Refusal> {
     let Fields {
         kind,
@@ -41,7 +66,7 @@ pub fn encode(step: impl Into<Fields>, out: &mut [u8]) -> Result<usize, Refusal>
         value,
         serial,
     } = step.into();
-    // SAFETY: a slice with its length.
+    // SAFETY: a slice with its length, lent to be changed.
     let reply = unsafe {
         raw::famdrize_encode(
             kind,
@@ -58,64 +83,91 @@ pub fn encode(step: impl Into<Fields>, out: &mut [u8]) -> Result<usize, Refusal>
     Ok(reply.a as usize)
 }
 
-/// Writes the session's mark to the start of the buffer, keeps what follows, and tells its length, 4: 36 for a buffer that is shorter.
+/// Writes the session's mark to the start of the buffer, keeps what follows, and tells its length, 4.
+///
+/// # Errors
+///
+/// 36 for a buffer that is shorter, which is kept.
 pub fn put_mark(out: &mut [u8]) -> Result<usize, Refusal> {
-    // SAFETY: a slice with its length.
+    // SAFETY: a slice with its length, lent to be changed.
     let reply = unsafe { raw::famdrize_put_mark(out.as_mut_ptr(), out.len()) };
     Refusal::of_code(reply.code)?;
     Ok(reply.a as usize)
 }
 
 /// Whether the session begins with the mark.
+#[must_use]
 pub fn is_marked(session: &[u8]) -> bool {
-    // SAFETY: a slice with its length.
+    // SAFETY: a slice with its length, lent to be read.
     unsafe { raw::famdrize_marked(session.as_ptr(), session.len()) }
 }
 
-/// A session that is written: the mark, then a record for each step.
-#[derive(Clone, Debug, PartialEq, Eq)]
-pub struct Session {
-    bytes: Vec<u8>,
+/// A session that is written to a lent buffer: the mark, then a record for each step.
+///
+/// ```
+/// use famdrize::{SessionMut, Step};
+///
+/// let mut buffer = [0; 64];
+/// let mut session = SessionMut::new(&mut buffer)?;
+/// session.push(Step::Split { entry: 128 })?;
+/// assert_eq!(session.bytes(), [0x52, 0x53, 0x4C, 0x31, 0x05, 0x0A, 0x80]);
+/// # Ok::<(), famdrize::Refusal>(())
+/// ```
+#[derive(Debug)]
+pub struct SessionMut<'a> {
+    buffer: &'a mut [u8],
+    length: usize,
 }
 
-impl Session {
-    /// Bytes of the longest session.
-    pub const MOST_BYTES: usize = 16_384;
-
-    /// A session without a record.
-    pub fn new() -> Session {
-        let mut bytes = vec![0; 4];
-        put_mark(&mut bytes).expect("four bytes hold the mark");
-        Session { bytes }
+impl<'a> SessionMut<'a> {
+    /// A session without a record, at the start of the buffer. [`SESSION_BYTES`] are enough for any.
+    ///
+    /// # Errors
+    ///
+    /// 36 for a buffer shorter than the mark, which is kept.
+    pub fn new(buffer: &'a mut [u8]) -> Result<SessionMut<'a>, Refusal> {
+        let length = put_mark(buffer)?;
+        Ok(SessionMut { buffer, length })
     }
 
-    /// Adds a step's record: 37 if the session would be too long.
-    pub fn push(&mut self, step: Step) -> Result<(), Refusal> {
-        let mut record = [0; 8];
-        let length = encode(step, &mut record).expect("eight bytes hold a step's record");
-        if self.bytes.len() + length > Session::MOST_BYTES {
+    /// The session that fills the buffer up to `length`: that of the owning form.
+    #[cfg(feature = "alloc")]
+    pub(crate) fn kept(buffer: &'a mut [u8], length: usize) -> SessionMut<'a> {
+        SessionMut { buffer, length }
+    }
+
+    /// Adds the record of a step, or of fields; a step that would be refused can be added.
+    ///
+    /// # Errors
+    ///
+    /// 26 and 27 for fields that are no step's, 37 if the session would be too long, 36 if it would not fit the buffer; the buffer is kept
+    /// then.
+    pub fn push(&mut self, step: impl Into<Fields>) -> Result<(), Refusal> {
+        let mut record = [0; RECORD_BYTES];
+        let end = self.length + encode(step, &mut record)?;
+        if end > SESSION_BYTES {
             return Err(Refusal::SessionTooLong);
         }
-        self.bytes.extend_from_slice(&record[..length]);
+        let place = self.buffer.get_mut(self.length..end);
+        let place = place.ok_or(Refusal::BufferShort)?;
+        place.copy_from_slice(&record[..place.len()]);
+        self.length = end;
         Ok(())
     }
 
     /// Its bytes.
+    #[must_use]
     pub fn bytes(&self) -> &[u8] {
-        &self.bytes
-    }
-}
-
-impl Default for Session {
-    fn default() -> Session {
-        Session::new()
+        &self.buffer[..self.length]
     }
 }
 
 #[cfg(test)]
 mod tests {
     use super::*;
-    use crate::{Player, Range};
+    use crate::{Player, Range, Step};
+    use std::vec;
+    use std::vec::Vec;
 
     #[test]
     fn empty_slices_are_passed_with_length_0() {
@@ -260,29 +312,102 @@ mod tests {
     }
 
     #[test]
-    fn a_session_is_the_mark_and_its_records() {
-        let mut session = Session::new();
+    fn a_session_is_written_to_a_lent_buffer() {
+        let mut buffer = [0xEE; 16];
+        let mut session = SessionMut::new(&mut buffer).unwrap();
         assert_eq!(session.bytes(), [0x52, 0x53, 0x4C, 0x31]);
         assert_eq!(session.push(Step::Split { entry: 128 }), Ok(()));
         assert_eq!(session.push(Step::Deliver { serial: 2 }), Ok(()));
-        assert_eq!(
-            session.bytes(),
-            [0x52, 0x53, 0x4C, 0x31, 0x05, 0x0A, 0x80, 0x21, 0x06, 2, 0, 0, 0]
-        );
+        let bytes = [
+            0x52, 0x53, 0x4C, 0x31, 0x05, 0x0A, 0x80, 0x21, 0x06, 2, 0, 0, 0,
+        ];
+        assert_eq!(session.bytes(), bytes);
         assert!(is_marked(session.bytes()));
+        // three bytes are left
+        assert_eq!(
+            session.push(Step::Deliver { serial: 3 }),
+            Err(Refusal::BufferShort)
+        );
+        assert_eq!(session.bytes(), bytes);
+        assert_eq!(session.push(Step::Merge { entry: 128 }), Ok(()));
+        assert_eq!(
+            session.push(Step::Merge { entry: 128 }),
+            Err(Refusal::BufferShort)
+        );
+        assert_eq!(session.bytes().len(), 16);
+        assert_eq!(&buffer[..13], bytes);
+        assert_eq!(buffer[13..], [0x05, 0x0B, 0x80]);
     }
 
     #[test]
-    fn a_session_ends_at_16384_bytes() {
-        let mut session = Session::new();
-        for _ in 0..5460 {
-            assert_eq!(session.push(Step::Split { entry: 1 }), Ok(()));
+    fn a_buffer_shorter_than_the_mark_is_refused_and_kept() {
+        for length in 0..4 {
+            let mut buffer = [0xEE; 4];
+            let part = &mut buffer[..length];
+            assert_eq!(SessionMut::new(part).err(), Some(Refusal::BufferShort));
+            assert_eq!(buffer, [0xEE; 4]);
         }
-        assert_eq!(session.bytes().len(), 16_384);
+        let mut buffer = [0xEE; 4];
+        let mut session = SessionMut::new(&mut buffer).unwrap();
         assert_eq!(
             session.push(Step::Split { entry: 1 }),
-            Err(Refusal::SessionTooLong)
+            Err(Refusal::BufferShort)
         );
-        assert_eq!(session.bytes().len(), 16_384);
+        assert_eq!(session.bytes(), [0x52, 0x53, 0x4C, 0x31]);
+    }
+
+    #[test]
+    fn a_lent_buffer_keeps_what_follows_the_session() {
+        let mut buffer = [0xEE; 12];
+        let mut session = SessionMut::new(&mut buffer).unwrap();
+        assert_eq!(session.push(Step::Split { entry: 1 }), Ok(()));
+        assert_eq!(
+            session.push(Step::Lose { serial: 1 }),
+            Err(Refusal::BufferShort)
+        );
+        assert_eq!(buffer[7..], [0xEE; 5]);
+    }
+
+    #[test]
+    fn a_session_in_a_longer_buffer_ends_at_16384_bytes() {
+        for room in [0, 1, 100] {
+            let mut buffer = vec![0xEE; SESSION_BYTES + room];
+            let mut session = SessionMut::new(&mut buffer).unwrap();
+            for _ in 1..MOST_RECORDS {
+                assert_eq!(session.push(Step::Split { entry: 1 }), Ok(()));
+            }
+            // three bytes are left, and a read has four
+            let player = Player::new(0).unwrap();
+            let read = Step::Read { player, entry: 1 };
+            assert_eq!(session.push(read), Err(Refusal::SessionTooLong));
+            assert_eq!(session.push(Step::Split { entry: 1 }), Ok(()));
+            assert_eq!(session.bytes().len(), SESSION_BYTES);
+            assert_eq!(
+                session.push(Step::Split { entry: 1 }),
+                Err(Refusal::SessionTooLong)
+            );
+            assert_eq!(session.bytes().len(), SESSION_BYTES);
+            assert!(buffer[SESSION_BYTES..].iter().all(|&b| b == 0xEE));
+        }
+    }
+
+    #[test]
+    fn fields_are_added_as_they_are() {
+        let mut buffer = [0; 32];
+        let mut session = SessionMut::new(&mut buffer).unwrap();
+        // a player of 9 can be written, and is no step
+        let read = Fields {
+            kind: 4,
+            player: 9,
+            entry: 45,
+            ..Fields::default()
+        };
+        assert_eq!(session.push(read), Ok(()));
+        assert_eq!(session.bytes()[4..], [0x07, 4, 9, 45]);
+        let other = Fields { kind: 255, ..read };
+        assert_eq!(session.push(other), Err(Refusal::UnknownKind));
+        let other = Fields { value: 1, ..read };
+        assert_eq!(session.push(other), Err(Refusal::WrongFields));
+        assert_eq!(session.bytes().len(), 8);
     }
 }

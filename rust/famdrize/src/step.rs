@@ -1,9 +1,12 @@
-//! Steps, by name and by their fields.
+//! Steps, by name, by their fields and in words.
+
+use core::fmt;
 
 use crate::{Player, Range, Refusal};
 
 /// A step: its kind, with that kind's fields and nothing else.
-#[derive(Clone, Copy, Debug, PartialEq, Eq)]
+#[derive(Clone, Copy, Debug, PartialEq, Eq, Hash)]
+#[non_exhaustive]
 pub enum Step {
     /// 1: the player becomes owner of the range.
     Assign {
@@ -82,6 +85,43 @@ pub enum Step {
     },
 }
 
+impl fmt::Display for Step {
+    fn fmt(&self, f: &mut fmt::Formatter<'_>) -> fmt::Result {
+        match *self {
+            Step::Assign { player, range } => write!(f, "{player} is assigned {range}"),
+            Step::Release { range } => {
+                let verb = if range.low() == range.last() {
+                    "is"
+                } else {
+                    "are"
+                };
+                write!(f, "{range} {verb} released")
+            }
+            Step::RequestGuard { player, range } => {
+                write!(f, "{player} asks for a guard over {range}")
+            }
+            Step::Read { player, entry } => write!(f, "{player} reads entry {entry}"),
+            Step::Write {
+                player,
+                entry,
+                value,
+            } => write!(f, "{player} writes {value} to entry {entry}"),
+            Step::Deliver { serial } => write!(f, "request {serial} arrives at the store"),
+            Step::Respond { serial } => {
+                write!(f, "the answer to request {serial} reaches its player")
+            }
+            Step::Abandon { serial } => write!(f, "request {serial} is given up"),
+            Step::Lose { serial } => write!(f, "the given-up request {serial} is lost"),
+            Step::Split { entry } => write!(f, "a tablet is split at entry {entry}"),
+            Step::Merge { entry } => write!(f, "two tablets are merged at entry {entry}"),
+            Step::RestartTablet { entry } => {
+                write!(f, "the tablet that holds entry {entry} restarts")
+            }
+            Step::RestartPlayer { player } => write!(f, "{player} restarts"),
+        }
+    }
+}
+
 /// The fields of a step at the widths of a record: those that the kind lacks are 0. Unlike a [`Step`], they may be ones that are refused.
 #[derive(Clone, Copy, Debug, Default, PartialEq, Eq, Hash)]
 pub struct Fields {
@@ -121,6 +161,24 @@ impl Fields {
     /// Its range, none where it is empty or goes past 256.
     fn its_range(self) -> Option<Range> {
         Range::new(self.entry, self.high)
+    }
+}
+
+/// The six numbers: these may be no step's, so none is left out.
+impl fmt::Display for Fields {
+    fn fmt(&self, f: &mut fmt::Formatter<'_>) -> fmt::Result {
+        let Fields {
+            kind,
+            player,
+            entry,
+            high,
+            value,
+            serial,
+        } = self;
+        write!(
+            f,
+            "kind {kind}, player {player}, entry {entry}, high {high}, value {value}, serial {serial}"
+        )
     }
 }
 
@@ -231,6 +289,7 @@ impl TryFrom<Fields> for Step {
 #[cfg(test)]
 mod tests {
     use super::*;
+    use std::string::ToString;
 
     /// A step of each kind, with its fields: kind, player, entry, high, value, serial.
     fn samples() -> [(Step, [u32; 6]); 13] {
@@ -325,6 +384,40 @@ mod tests {
                 ..assign
             }),
             Err(Refusal::OutOfRange)
+        );
+    }
+
+    #[test]
+    fn steps_are_told_in_words() {
+        let texts = [
+            "player 7 is assigned entries 40 to 255",
+            "entries 40 to 255 are released",
+            "player 7 asks for a guard over entries 40 to 255",
+            "player 7 reads entry 45",
+            "player 7 writes 99 to entry 45",
+            "request 11 arrives at the store",
+            "the answer to request 11 reaches its player",
+            "request 11 is given up",
+            "the given-up request 11 is lost",
+            "a tablet is split at entry 45",
+            "two tablets are merged at entry 45",
+            "the tablet that holds entry 45 restarts",
+            "player 7 restarts",
+        ];
+        assert_eq!(samples().map(|(step, _)| step.to_string()), texts);
+        let range = Range::of_entry(45);
+        assert_eq!(Step::Release { range }.to_string(), "entry 45 is released");
+    }
+
+    #[test]
+    fn fields_are_told_by_their_numbers() {
+        assert_eq!(
+            fields([4, 9, 45, 0, 0, 0]).to_string(),
+            "kind 4, player 9, entry 45, high 0, value 0, serial 0"
+        );
+        assert_eq!(
+            fields([200, 1, 2, 300, 4, 5]).to_string(),
+            "kind 200, player 1, entry 2, high 300, value 4, serial 5"
         );
     }
 }

@@ -1,15 +1,37 @@
-//! The store used alone, without any player.
+//! The store used alone, without any player: its table, lent.
 
+use crate::reply::accepted;
 use crate::{raw, Range, Refusal, Serial};
 
-/// A store's table, which keeps its rules. The same write handed in twice may commit twice.
-#[derive(Clone, Debug, PartialEq, Eq)]
-pub struct Store {
-    words: Vec<u32>,
+/// Words of the store's table.
+pub const STORE_WORDS: usize = 1280;
+
+/// A store's table, lent by the caller, which keeps its rules: the store used alone, without heap. The same write handed in twice may commit
+/// twice.
+///
+/// While it stands, nothing else changes the words. They stay when it goes, and [`StoreMut::check`] takes them up again.
+///
+/// ```
+/// use famdrize::{GuardOutcome, Range, Serial, StoreMut, WriteOutcome, STORE_WORDS};
+///
+/// let mut words = [0; STORE_WORDS];
+/// let mut store = StoreMut::fresh(&mut words);
+/// let range = Range::try_from(40..60)?;
+/// assert_eq!(store.set_guard(range, Serial::try_from(2)?), GuardOutcome::Set);
+/// assert_eq!(store.write(45, 7, Serial::try_from(3)?, 2), WriteOutcome::Committed);
+/// assert_eq!(store.write(45, 8, Serial::try_from(4)?, 1), WriteOutcome::Rejected);
+/// let cell = StoreMut::check(&mut words)?.read(45);
+/// assert_eq!((cell.version, cell.value), (3, 7));
+/// # Ok::<(), famdrize::Refusal>(())
+/// ```
+#[derive(Debug, PartialEq, Eq)]
+pub struct StoreMut<'a> {
+    words: &'a mut [u32; STORE_WORDS],
 }
 
 /// An entry's value, and the serial of the write that made it, 0 if none did.
-#[derive(Clone, Copy, Debug, PartialEq, Eq)]
+#[derive(Clone, Copy, Debug, PartialEq, Eq, Hash)]
+#[non_exhaustive]
 pub struct Versioned {
     /// The serial of the write.
     pub version: u32,
@@ -18,7 +40,9 @@ pub struct Versioned {
 }
 
 /// What becomes of a guard that is to be set.
-#[derive(Clone, Copy, Debug, PartialEq, Eq)]
+#[derive(Clone, Copy, Debug, PartialEq, Eq, Hash)]
+#[non_exhaustive]
+#[must_use = "the guard may not be set"]
 pub enum GuardOutcome {
     /// It is set over the range.
     Set,
@@ -27,7 +51,9 @@ pub enum GuardOutcome {
 }
 
 /// What becomes of a write.
-#[derive(Clone, Copy, Debug, PartialEq, Eq)]
+#[derive(Clone, Copy, Debug, PartialEq, Eq, Hash)]
+#[non_exhaustive]
+#[must_use = "the write may be turned back"]
 pub enum WriteOutcome {
     /// It carries the entry's guard, which is not 0, and its serial and value become the entry's.
     Committed,
@@ -35,106 +61,124 @@ pub enum WriteOutcome {
     Rejected,
 }
 
-impl Store {
-    /// Words of the table.
-    pub const WORDS: usize = 1280;
-
-    /// A fresh store.
-    pub fn fresh() -> Store {
-        let mut store = Store {
-            words: vec![0; Store::WORDS],
-        };
-        let reply = store.call(|words, length| unsafe { raw::famdrize_store_fresh(words, length) });
-        assert_eq!(reply.code, 0, "a table of the right length is made fresh");
-        store
+impl<'a> StoreMut<'a> {
+    /// Makes the table fresh, whatever it held.
+    pub fn fresh(words: &'a mut [u32; STORE_WORDS]) -> StoreMut<'a> {
+        // SAFETY: an array with its length, lent to be changed.
+        let reply = unsafe { raw::famdrize_store_fresh(words.as_mut_ptr(), words.len()) };
+        accepted(reply);
+        StoreMut { words }
     }
 
-    /// The store of these words, which are tested: 21 for a wrong length, 22 for a rule that is broken.
-    pub fn from_words(words: Vec<u32>) -> Result<Store, Refusal> {
-        // SAFETY: a slice with its length.
+    /// The table as it is, which is tested.
+    ///
+    /// # Errors
+    ///
+    /// 22 where a rule is broken.
+    pub fn check(words: &'a mut [u32; STORE_WORDS]) -> Result<StoreMut<'a>, Refusal> {
+        // SAFETY: an array with its length; the call does not change it.
         let reply = unsafe { raw::famdrize_store_check(words.as_ptr(), words.len()) };
         Refusal::of_code(reply.code)?;
-        Ok(Store { words })
+        Ok(StoreMut { words })
+    }
+
+    /// A table that keeps its rules already: that of the owning form.
+    #[cfg(feature = "alloc")]
+    pub(crate) fn kept(words: &'a mut [u32; STORE_WORDS]) -> StoreMut<'a> {
+        StoreMut { words }
     }
 
     /// The words of the table, as docs/FORMATS.md lays them out.
+    #[must_use]
     pub fn words(&self) -> &[u32] {
-        &self.words
+        self.words
     }
 
     /// The entry's version and value.
+    #[must_use]
     pub fn read(&self, entry: u8) -> Versioned {
-        // SAFETY: a slice with its length.
-        let reply =
-            unsafe { raw::famdrize_store_read(self.words.as_ptr(), self.words.len(), entry) };
-        assert_eq!(reply.code, 0, "a table that keeps its rules can be read");
-        Versioned {
-            version: reply.a,
-            value: reply.b,
-        }
+        read(self.words, entry)
     }
 
     /// Sets a guard, numbered by its serial, over a range that lies in one tablet.
     pub fn set_guard(&mut self, range: Range, serial: Serial) -> GuardOutcome {
-        let (low, high) = (range.low(), range.high());
-        let reply = self.call(|words, length| unsafe {
-            raw::famdrize_store_set_guard(words, length, low, high, serial.number())
-        });
-        match (reply.code, reply.a) {
-            (0, 1) => GuardOutcome::Set,
-            (0, 2) => GuardOutcome::LayoutChanged,
+        // SAFETY: an array with its length, lent to be changed.
+        let reply = unsafe {
+            raw::famdrize_store_set_guard(
+                self.words.as_mut_ptr(),
+                self.words.len(),
+                range.low(),
+                range.high(),
+                serial.number(),
+            )
+        };
+        match accepted(reply) {
+            [1, 0] => GuardOutcome::Set,
+            [2, 0] => GuardOutcome::LayoutChanged,
             _ => unreachable!("a guard with a serial over a range is set or not: {reply:?}"),
         }
     }
 
     /// A write that carries a guard, which may be any number; 0 is the guard of no write that commits.
     pub fn write(&mut self, entry: u8, value: u32, serial: Serial, guard: u32) -> WriteOutcome {
-        let reply = self.call(|words, length| unsafe {
-            raw::famdrize_store_write(words, length, entry, value, serial.number(), guard)
-        });
-        match (reply.code, reply.a) {
-            (0, 1) => WriteOutcome::Committed,
-            (0, 2) => WriteOutcome::Rejected,
+        // SAFETY: an array with its length, lent to be changed.
+        let reply = unsafe {
+            raw::famdrize_store_write(
+                self.words.as_mut_ptr(),
+                self.words.len(),
+                entry,
+                value,
+                serial.number(),
+                guard,
+            )
+        };
+        match accepted(reply) {
+            [1, 0] => WriteOutcome::Committed,
+            [2, 0] => WriteOutcome::Rejected,
             _ => unreachable!("a write with a serial commits or not: {reply:?}"),
         }
     }
 
-    /// A tablet begins at the entry: 28 at entry 0, 35 where one does.
+    /// A tablet begins at the entry.
+    ///
+    /// # Errors
+    ///
+    /// 28 at entry 0, 35 where one does already.
     pub fn split(&mut self, entry: u8) -> Result<(), Refusal> {
-        Refusal::of_code(
-            self.call(|words, length| unsafe { raw::famdrize_store_split(words, length, entry) })
-                .code,
-        )
+        // SAFETY: an array with its length, lent to be changed.
+        let reply =
+            unsafe { raw::famdrize_store_split(self.words.as_mut_ptr(), self.words.len(), entry) };
+        Refusal::of_code(reply.code)
     }
 
-    /// No tablet begins at the entry any more: 28 at entry 0, 35 where none does.
+    /// No tablet begins at the entry any more.
+    ///
+    /// # Errors
+    ///
+    /// 28 at entry 0, 35 where none does.
     pub fn merge(&mut self, entry: u8) -> Result<(), Refusal> {
-        Refusal::of_code(
-            self.call(|words, length| unsafe { raw::famdrize_store_merge(words, length, entry) })
-                .code,
-        )
+        // SAFETY: an array with its length, lent to be changed.
+        let reply =
+            unsafe { raw::famdrize_store_merge(self.words.as_mut_ptr(), self.words.len(), entry) };
+        Refusal::of_code(reply.code)
     }
 
     /// The guards of the tablet that holds the entry become 0.
     pub fn restart(&mut self, entry: u8) {
-        let reply =
-            self.call(|words, length| unsafe { raw::famdrize_store_restart(words, length, entry) });
-        assert_eq!(
-            reply.code, 0,
-            "a tablet of a table that keeps its rules restarts"
-        );
-    }
-
-    /// A call over the table. What it is handed is a slice's pointer and length, so an exported call of the store is sound there.
-    fn call(&mut self, call: impl FnOnce(*mut u32, usize) -> raw::Reply) -> raw::Reply {
-        call(self.words.as_mut_ptr(), self.words.len())
+        // SAFETY: an array with its length, lent to be changed.
+        let reply = unsafe {
+            raw::famdrize_store_restart(self.words.as_mut_ptr(), self.words.len(), entry)
+        };
+        accepted(reply);
     }
 }
 
-impl Default for Store {
-    fn default() -> Store {
-        Store::fresh()
-    }
+/// The entry's version and value, of a table that keeps its rules.
+pub(crate) fn read(words: &[u32; STORE_WORDS], entry: u8) -> Versioned {
+    // SAFETY: an array with its length, lent to be read.
+    let reply = unsafe { raw::famdrize_store_read(words.as_ptr(), words.len(), entry) };
+    let [version, value] = accepted(reply);
+    Versioned { version, value }
 }
 
 #[cfg(test)]
@@ -145,66 +189,76 @@ mod tests {
         Serial::new(number).unwrap()
     }
 
+    fn range(low: u8, high: u16) -> Range {
+        Range::new(low, high).unwrap()
+    }
+
     #[test]
-    fn a_fresh_store_has_its_words() {
-        let mut words = vec![0; 1280];
+    fn a_lent_table_is_made_fresh() {
+        let mut words = [5; STORE_WORDS];
+        let store = StoreMut::fresh(&mut words);
+        assert_eq!(store.words()[0], 1);
+        assert_eq!(store.words()[1..], [0; STORE_WORDS - 1]);
+    }
+
+    #[test]
+    fn a_lent_table_is_tested_and_kept() {
+        let mut words = [0; STORE_WORDS];
+        assert_eq!(StoreMut::check(&mut words), Err(Refusal::TableRules));
+        assert_eq!(words, [0; STORE_WORDS]);
         words[0] = 1;
-        assert_eq!(Store::fresh().words(), words);
-        assert_eq!(Store::from_words(words), Ok(Store::fresh()));
+        let fresh = words;
+        assert!(StoreMut::check(&mut words).is_ok());
+        assert_eq!(words, fresh);
+        // a version above the last serial
+        words[768] = 4_000_001;
+        assert_eq!(StoreMut::check(&mut words), Err(Refusal::TableRules));
     }
 
     #[test]
-    fn other_tables_are_refused() {
-        assert_eq!(Store::from_words(vec![]), Err(Refusal::TableLength));
-        assert_eq!(Store::from_words(vec![0; 1281]), Err(Refusal::TableLength));
-        assert_eq!(Store::from_words(vec![0; 1280]), Err(Refusal::TableRules));
-    }
-
-    #[test]
-    fn a_write_commits_under_the_entrys_guard_alone() {
-        let mut store = Store::fresh();
-        assert_eq!(store.write(45, 7, serial(1), 0), WriteOutcome::Rejected);
-        assert_eq!(
-            store.set_guard(Range::new(40, 60).unwrap(), serial(2)),
-            GuardOutcome::Set
-        );
+    fn a_write_to_a_lent_table_commits_under_the_entrys_guard_alone() {
+        let mut words = [0; STORE_WORDS];
+        let mut store = StoreMut::fresh(&mut words);
+        let guard = store.set_guard(range(40, 60), serial(2));
+        assert_eq!(guard, GuardOutcome::Set);
         assert_eq!(store.write(45, 7, serial(3), 2), WriteOutcome::Committed);
         assert_eq!(store.write(45, 8, serial(4), 1), WriteOutcome::Rejected);
         assert_eq!(store.write(60, 8, serial(5), 2), WriteOutcome::Rejected);
-        assert_eq!(
-            store.read(45),
-            Versioned {
-                version: 3,
-                value: 7
-            }
-        );
-        assert_eq!(
-            store.read(60),
-            Versioned {
-                version: 0,
-                value: 0
-            }
-        );
-        store.restart(45);
+        assert_eq!(store.write(60, 8, serial(5), 0), WriteOutcome::Rejected);
+        // it stays when it goes, and is taken up again
+        let mut store = StoreMut::check(&mut words).unwrap();
+        let told = |cell: Versioned| (cell.version, cell.value);
+        assert_eq!(told(store.read(45)), (3, 7));
+        assert_eq!(told(store.read(60)), (0, 0));
+        store.restart(200);
         assert_eq!(store.write(45, 9, serial(6), 2), WriteOutcome::Rejected);
+        assert_eq!(told(store.read(45)), (3, 7));
     }
 
     #[test]
-    fn tablets_are_split_and_merged() {
-        let mut store = Store::fresh();
+    fn tablets_of_a_lent_table_are_split_and_merged() {
+        let mut words = [0; STORE_WORDS];
+        let mut store = StoreMut::fresh(&mut words);
         assert_eq!(store.split(128), Ok(()));
+        let before = *store.words;
         assert_eq!(store.split(128), Err(Refusal::WrongBoundary));
         assert_eq!(store.split(0), Err(Refusal::OutOfRange));
+        assert_eq!(store.merge(0), Err(Refusal::OutOfRange));
+        assert_eq!(store.merge(127), Err(Refusal::WrongBoundary));
         assert_eq!(
-            store.set_guard(Range::new(120, 130).unwrap(), serial(1)),
+            store.set_guard(range(120, 130), serial(1)),
             GuardOutcome::LayoutChanged
         );
-        assert_eq!(store.merge(128), Ok(()));
-        assert_eq!(store.merge(128), Err(Refusal::WrongBoundary));
-        assert_eq!(store.merge(0), Err(Refusal::OutOfRange));
+        assert_eq!(*store.words, before);
         assert_eq!(
-            store.set_guard(Range::new(120, 130).unwrap(), serial(1)),
+            store.set_guard(range(128, 256), serial(1)),
             GuardOutcome::Set
         );
+        // the guard is that of the other tablet
+        store.restart(127);
+        assert_eq!(store.write(128, 9, serial(2), 1), WriteOutcome::Committed);
+        assert_eq!(store.merge(128), Ok(()));
+        store.restart(127);
+        assert_eq!(store.write(128, 9, serial(3), 1), WriteOutcome::Rejected);
     }
 }

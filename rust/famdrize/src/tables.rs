@@ -1,30 +1,43 @@
-//! The two tables and the steps on them.
+//! The two tables, lent, and the steps on them.
 
+use crate::reply::accepted;
+use crate::requests::in_table;
 use crate::{pending, raw, Fields, Player, Refusal, Reply, Report, Request, Step};
+use crate::{REQUESTS, STORE_WORDS};
 
-/// The store's table and the players', which keep their rules: the whole state.
-#[derive(Clone, Debug, PartialEq, Eq)]
-pub struct Tables {
-    store: Vec<u32>,
-    players: Vec<u32>,
+/// Words of the players' table.
+pub const PLAYERS_WORDS: usize = 9473;
+
+/// The store's table and the players', lent by the caller, which keep their rules: the whole state, without heap.
+///
+/// While it stands, nothing else changes the words. They stay when it goes, and [`TablesMut::check`] takes them up again.
+///
+/// ```
+/// use famdrize::{Player, Reply, Step, TablesMut, PLAYERS_WORDS, STORE_WORDS};
+///
+/// let (mut store, mut players) = ([0; STORE_WORDS], [0; PLAYERS_WORDS]);
+/// let mut tables = TablesMut::fresh(&mut store, &mut players);
+/// let player = Player::new(0).unwrap();
+/// assert_eq!(tables.step(Step::Read { player, entry: 45 }), Reply::Issued { serial: 1 });
+///
+/// let tables = TablesMut::check(&mut store, &mut players)?;
+/// assert_eq!(tables.last_serial(), 1);
+/// assert_eq!(tables.pending(player), 1);
+/// # Ok::<(), famdrize::Refusal>(())
+/// ```
+#[derive(Debug, PartialEq, Eq)]
+pub struct TablesMut<'a> {
+    store: &'a mut [u32; STORE_WORDS],
+    players: &'a mut [u32; PLAYERS_WORDS],
 }
 
-impl Tables {
-    /// Words of the store's table.
-    pub const STORE_WORDS: usize = 1280;
-    /// Words of the players' table.
-    pub const PLAYERS_WORDS: usize = 9473;
-    /// The most records that a session holds: 16,380 bytes of three each.
-    pub const MOST_RECORDS: usize = 5460;
-
-    /// Fresh tables.
-    pub fn fresh() -> Tables {
-        let mut tables = Tables {
-            store: vec![0; Tables::STORE_WORDS],
-            players: vec![0; Tables::PLAYERS_WORDS],
-        };
-        let Tables { store, players } = &mut tables;
-        // SAFETY: two slices that do not overlap, each with its length.
+impl<'a> TablesMut<'a> {
+    /// Makes the tables fresh, whatever they held.
+    pub fn fresh(
+        store: &'a mut [u32; STORE_WORDS],
+        players: &'a mut [u32; PLAYERS_WORDS],
+    ) -> TablesMut<'a> {
+        // SAFETY: two arrays, lent to be changed, so they do not overlap; each with its length.
         let reply = unsafe {
             raw::famdrize_fresh(
                 store.as_mut_ptr(),
@@ -33,28 +46,46 @@ impl Tables {
                 players.len(),
             )
         };
-        assert_eq!(reply.code, 0, "tables of the right lengths are made fresh");
-        tables
+        accepted(reply);
+        TablesMut { store, players }
     }
 
-    /// The tables of these words, which are tested: 21 for a wrong length, 22 for a rule that is broken.
-    pub fn from_words(store: Vec<u32>, players: Vec<u32>) -> Result<Tables, Refusal> {
-        // SAFETY: two slices, each with its length.
+    /// The tables as they are, which are tested.
+    ///
+    /// # Errors
+    ///
+    /// 22 where a rule is broken.
+    pub fn check(
+        store: &'a mut [u32; STORE_WORDS],
+        players: &'a mut [u32; PLAYERS_WORDS],
+    ) -> Result<TablesMut<'a>, Refusal> {
+        // SAFETY: two arrays, each with its length; the call changes neither.
         let reply = unsafe {
             raw::famdrize_check(store.as_ptr(), store.len(), players.as_ptr(), players.len())
         };
         Refusal::of_code(reply.code)?;
-        Ok(Tables { store, players })
+        Ok(TablesMut { store, players })
+    }
+
+    /// Tables that keep their rules already: those of the owning form.
+    #[cfg(feature = "alloc")]
+    pub(crate) fn kept(
+        store: &'a mut [u32; STORE_WORDS],
+        players: &'a mut [u32; PLAYERS_WORDS],
+    ) -> TablesMut<'a> {
+        TablesMut { store, players }
     }
 
     /// The words of the store's table, as docs/FORMATS.md lays them out.
+    #[must_use]
     pub fn store_words(&self) -> &[u32] {
-        &self.store
+        self.store
     }
 
     /// The words of the players' table.
+    #[must_use]
     pub fn players_words(&self) -> &[u32] {
-        &self.players
+        self.players
     }
 
     /// Takes a step.
@@ -72,14 +103,13 @@ impl Tables {
             value,
             serial,
         } = fields;
-        let Tables { store, players } = self;
-        // SAFETY: two slices that do not overlap, each with its length.
+        // SAFETY: two arrays, lent to be changed, so they do not overlap; each with its length.
         let reply = unsafe {
             raw::famdrize_step(
-                store.as_mut_ptr(),
-                store.len(),
-                players.as_mut_ptr(),
-                players.len(),
+                self.store.as_mut_ptr(),
+                self.store.len(),
+                self.players.as_mut_ptr(),
+                self.players.len(),
                 kind,
                 player,
                 entry,
@@ -88,22 +118,21 @@ impl Tables {
                 serial,
             )
         };
-        Reply::of_step(reply)
+        Reply::of_step([reply.code, reply.a, reply.b])
     }
 
     /// Takes the steps of a session's records, at most `budget` of them and at most as many as there are places for their replies: each
     /// reply's numbers are put into its place, and places not filled keep what they had. A refused step is taken and replied to, and the
-    /// run goes on.
+    /// run goes on. [`MOST_RECORDS`](crate::MOST_RECORDS) places are enough for any session.
     pub fn run(&mut self, session: &[u8], budget: u32, replies: &mut [[u32; 3]]) -> Report {
-        let Tables { store, players } = self;
         let replies = replies.as_flattened_mut();
-        // SAFETY: four slices that do not overlap, each with its length.
+        // SAFETY: three slices lent to be changed and one to be read, so none overlaps another; each with its length.
         let report = unsafe {
             raw::famdrize_run(
-                store.as_mut_ptr(),
-                store.len(),
-                players.as_mut_ptr(),
-                players.len(),
+                self.store.as_mut_ptr(),
+                self.store.len(),
+                self.players.as_mut_ptr(),
+                self.players.len(),
                 session.as_ptr(),
                 session.len(),
                 budget,
@@ -114,278 +143,231 @@ impl Tables {
         Report::of_run(report)
     }
 
-    /// A run with a budget and places for any session; the replies to the records taken.
-    pub fn run_all(&mut self, session: &[u8]) -> (Report, Vec<Reply>) {
-        let mut numbers = vec![[0; 3]; Tables::MOST_RECORDS];
-        let report = self.run(session, u32::MAX, &mut numbers);
-        let taken = &numbers[..report.records as usize];
-        (
-            report,
-            taken
-                .iter()
-                .map(|&n| Reply::from_numbers(n).expect("a step's reply"))
-                .collect(),
-        )
-    }
-
     /// The last serial issued, 0 if none was.
+    #[must_use]
     pub fn last_serial(&self) -> u32 {
-        self.players[0]
+        last_serial(self.players)
     }
 
-    /// The 64 places for requests in flight, as records: those in use first, in rising serial.
-    pub fn requests(&self) -> Vec<Request> {
-        self.players[8705..]
-            .chunks_exact(12)
-            .map(Request::from_words)
-            .collect()
+    /// The places for requests in flight, as records: those in use first, in rising serial.
+    #[must_use]
+    pub fn requests(&self) -> [Request; REQUESTS] {
+        in_table(self.players)
     }
 
     /// How many pending requests the player has.
+    #[must_use]
     pub fn pending(&self, player: Player) -> u32 {
-        pending(&self.requests(), player).expect("the table has 64 places")
+        pending_in(self.players, player)
     }
 }
 
-impl Default for Tables {
-    fn default() -> Tables {
-        Tables::fresh()
-    }
+/// The last serial issued of a players' table.
+pub(crate) fn last_serial(players: &[u32; PLAYERS_WORDS]) -> u32 {
+    players[0]
+}
+
+/// How many pending requests of the player stand in a players' table that keeps its rules.
+pub(crate) fn pending_in(players: &[u32; PLAYERS_WORDS], player: Player) -> u32 {
+    pending(&in_table(players), player).expect("the table has all places")
 }
 
 #[cfg(test)]
 mod tests {
     use super::*;
-    use crate::{Range, Session, Why};
+    use crate::{Range, SessionMut, Why};
 
-    fn stopped(why: Why, records: u32, place: u32) -> Report {
-        Report {
-            why,
-            records,
-            place,
-        }
+    /// Words of both tables that no call has made.
+    fn lent() -> ([u32; STORE_WORDS], [u32; PLAYERS_WORDS]) {
+        ([5; STORE_WORDS], [5; PLAYERS_WORDS])
+    }
+
+    fn player(number: u8) -> Player {
+        Player::new(number).unwrap()
+    }
+
+    fn read(number: u8, entry: u8) -> Step {
+        let player = player(number);
+        Step::Read { player, entry }
+    }
+
+    fn assign(number: u8, range: Range) -> Step {
+        let player = player(number);
+        Step::Assign { player, range }
     }
 
     fn issued(serial: u32) -> Reply {
         Reply::Issued { serial }
     }
 
-    fn read(player: Player, entry: u8) -> Step {
-        Step::Read { player, entry }
+    #[test]
+    fn lent_tables_are_made_fresh() {
+        let (mut store, mut players) = lent();
+        let tables = TablesMut::fresh(&mut store, &mut players);
+        assert_eq!(tables.store_words()[0], 1);
+        assert_eq!(tables.store_words()[1..], [0; STORE_WORDS - 1]);
+        assert_eq!(tables.players_words()[0], 0);
+        assert_eq!(tables.players_words()[1..257], [8; 256]);
+        assert_eq!(tables.players_words()[257..], [0; PLAYERS_WORDS - 257]);
     }
 
     #[test]
-    fn fresh_tables_have_their_words() {
-        let tables = Tables::fresh();
-        let mut store = vec![0; 1280];
+    fn lent_tables_are_tested_and_kept() {
+        let (mut store, mut players) = lent();
+        let refused = Err(Refusal::TableRules);
+        assert_eq!(TablesMut::check(&mut store, &mut players), refused);
+        assert_eq!((store, players), lent());
+        TablesMut::fresh(&mut store, &mut players);
+        let (fresh_store, fresh_players) = (store, players);
+        assert!(TablesMut::check(&mut store, &mut players).is_ok());
+        players[1] = 9;
+        assert_eq!(TablesMut::check(&mut store, &mut players), refused);
+        players[1] = 8;
+        store[0] = 0;
+        assert_eq!(TablesMut::check(&mut store, &mut players), refused);
         store[0] = 1;
-        let mut players = vec![0; 9473];
-        players[1..257].fill(8);
-        assert_eq!(tables.store_words(), store);
-        assert_eq!(tables.players_words(), players);
-        assert_eq!(Tables::from_words(store, players), Ok(tables));
+        assert!(TablesMut::check(&mut store, &mut players).is_ok());
+        assert_eq!((store, players), (fresh_store, fresh_players));
     }
 
     #[test]
-    fn other_tables_are_refused() {
-        let fresh = Tables::fresh();
-        let (store, players) = (fresh.store.clone(), fresh.players.clone());
-        assert_eq!(
-            Tables::from_words(vec![], players.clone()),
-            Err(Refusal::TableLength)
-        );
-        assert_eq!(
-            Tables::from_words(store.clone(), vec![]),
-            Err(Refusal::TableLength)
-        );
-        assert_eq!(
-            Tables::from_words(store.clone(), vec![0; 9474]),
-            Err(Refusal::TableLength)
-        );
-        let mut owners = players.clone();
-        owners[1] = 9;
-        assert_eq!(
-            Tables::from_words(store.clone(), owners),
-            Err(Refusal::TableRules)
-        );
-        let mut boundaries = store;
-        boundaries[0] = 0;
-        assert_eq!(
-            Tables::from_words(boundaries, players),
-            Err(Refusal::TableRules)
-        );
-    }
-
-    #[test]
-    fn steps_change_the_tables_and_refusals_do_not() {
-        let mut tables = Tables::fresh();
-        let player = Player::new(7).unwrap();
-        assert_eq!(
-            tables.step(Step::Assign {
-                player,
-                range: Range::all()
-            }),
-            issued(1)
-        );
+    fn steps_change_lent_tables_and_refusals_do_not() {
+        let (mut store, mut players) = lent();
+        let mut tables = TablesMut::fresh(&mut store, &mut players);
+        assert_eq!(tables.step(assign(7, Range::all())), issued(1));
         assert_eq!(tables.last_serial(), 1);
         assert_eq!(tables.players_words()[1..257], [7; 256]);
-        let before = tables.clone();
-        assert_eq!(
-            tables.step(Step::Deliver { serial: 1 }),
-            Reply::Refused(Refusal::NoSuchRequest)
-        );
-        assert_eq!(
-            tables.step(Step::Split { entry: 0 }),
-            Reply::Refused(Refusal::OutOfRange)
-        );
-        assert_eq!(
-            tables.step_fields(Fields {
-                kind: 255,
-                ..Fields::default()
-            }),
-            Reply::Refused(Refusal::UnknownKind)
-        );
-        assert_eq!(
-            tables.step_fields(Fields {
-                kind: 13,
-                serial: 1,
-                ..Fields::default()
-            }),
-            Reply::Refused(Refusal::WrongFields)
-        );
-        assert_eq!(
-            tables.step_fields(Fields {
-                kind: 13,
-                player: 8,
-                ..Fields::default()
-            }),
-            Reply::Refused(Refusal::OutOfRange)
-        );
-        assert_eq!(tables, before);
+        // they stay when it goes, and are taken up again
+        let (store_before, players_before) = (store, players);
+        let mut tables = TablesMut::check(&mut store, &mut players).unwrap();
+        let none = Fields::default();
+        let refused = [
+            (none, Refusal::UnknownKind),
+            (Fields { kind: 255, ..none }, Refusal::UnknownKind),
+            (
+                Fields {
+                    kind: 13,
+                    serial: 1,
+                    ..none
+                },
+                Refusal::WrongFields,
+            ),
+            (
+                Fields {
+                    kind: 13,
+                    player: 8,
+                    ..none
+                },
+                Refusal::OutOfRange,
+            ),
+            (Step::Split { entry: 0 }.into(), Refusal::OutOfRange),
+            (Step::Merge { entry: 9 }.into(), Refusal::WrongBoundary),
+            (Step::Deliver { serial: 1 }.into(), Refusal::NoSuchRequest),
+        ];
+        for (fields, refusal) in refused {
+            let reply = tables.step_fields(fields);
+            assert_eq!(reply, Reply::Refused(refusal), "{fields}");
+        }
+        assert_eq!((store, players), (store_before, players_before));
     }
 
     #[test]
-    fn requests_are_offered_as_records() {
-        let mut tables = Tables::fresh();
-        let [one, two] = [1, 2].map(|n| Player::new(n).unwrap());
-        assert_eq!(tables.step(read(one, 9)), issued(1));
-        assert_eq!(tables.step(read(one, 10)), issued(2));
+    fn requests_of_lent_tables_are_offered_as_records() {
+        let (mut store, mut players) = lent();
+        let mut tables = TablesMut::fresh(&mut store, &mut players);
+        assert_eq!(tables.requests(), [Request::default(); REQUESTS]);
+        assert_eq!(tables.step(read(1, 9)), issued(1));
+        assert_eq!(tables.step(read(1, 10)), issued(2));
         assert_eq!(tables.step(Step::Abandon { serial: 1 }), Reply::Done);
+        assert_eq!(tables.step(Step::Deliver { serial: 2 }), Reply::Done);
         let requests = tables.requests();
-        assert_eq!(requests.len(), 64);
-        assert_eq!(
-            requests[0],
-            Request {
-                serial: 1,
-                player: 1,
-                kind: 4,
-                low: 9,
-                abandoned: true,
-                ..Request::default()
-            }
-        );
-        assert_eq!(
-            requests[1],
-            Request {
-                serial: 2,
-                player: 1,
-                kind: 4,
-                low: 10,
-                ..Request::default()
-            }
-        );
-        assert_eq!(requests[2..], [Request::default(); 62]);
-        assert_eq!(tables.pending(one), 1);
-        assert_eq!(tables.pending(two), 0);
+        let first = Request {
+            serial: 1,
+            player: 1,
+            kind: 4,
+            low: 9,
+            abandoned: true,
+            ..Request::default()
+        };
+        let second = Request {
+            serial: 2,
+            player: 1,
+            kind: 4,
+            low: 10,
+            delivered: true,
+            ..Request::default()
+        };
+        assert_eq!(requests[..2], [first, second]);
+        assert_eq!(requests[2..], [Request::default(); REQUESTS - 2]);
+        assert_eq!(tables.pending(player(1)), 1);
+        assert_eq!(tables.pending(player(2)), 0);
+        assert_eq!(tables.last_serial(), 2);
     }
 
-    /// A session of three steps: player 7 gets entry 9, reads it, and the read arrives.
-    fn session() -> Session {
-        let player = Player::new(7).unwrap();
-        let mut session = Session::new();
+    #[test]
+    fn all_places_are_offered() {
+        let (mut store, mut players) = lent();
+        let mut tables = TablesMut::fresh(&mut store, &mut players);
+        for serial in 1..=64 {
+            assert_eq!(tables.step(read(3, 9)), issued(serial));
+        }
+        let full = Reply::Refused(Refusal::NoPlaceLeft);
+        assert_eq!(tables.step(read(3, 9)), full);
+        assert_eq!(tables.pending(player(3)), 64);
+        for (serial, request) in (1..).zip(tables.requests()) {
+            assert_eq!(request.serial, serial);
+        }
+    }
+
+    #[test]
+    fn a_session_is_run_on_lent_tables() {
+        // player 7 gets entry 9, reads it, and the read arrives; the last byte is no record
+        let mut buffer = [0; 32];
+        let mut session = SessionMut::new(&mut buffer).unwrap();
         for step in [
-            Step::Assign {
-                player,
-                range: Range::of_entry(9),
-            },
-            read(player, 9),
+            assign(7, Range::of_entry(9)),
+            read(7, 9),
             Step::Deliver { serial: 2 },
         ] {
             session.push(step).unwrap();
         }
-        session
-    }
-
-    #[test]
-    fn a_run_takes_the_steps_of_a_session() {
-        let mut stepped = Tables::fresh();
-        let player = Player::new(7).unwrap();
+        assert_eq!(session.bytes().len(), 20);
+        buffer[20] = 0x40;
+        let (mut store, mut players) = lent();
+        let mut run = |session: &[u8], budget, places: usize| {
+            let mut tables = TablesMut::fresh(&mut store, &mut players);
+            let mut replies = [[5; 3]; 4];
+            let report = tables.run(session, budget, &mut replies[..places]);
+            let told = (report.why, report.records, report.place);
+            (told, tables.last_serial(), replies)
+        };
+        let kept = [5; 3];
+        let [one, two, done] = [[1, 1, 0], [1, 2, 0], [0, 0, 0]];
         assert_eq!(
-            stepped.step(Step::Assign {
-                player,
-                range: Range::of_entry(9)
-            }),
-            issued(1)
+            run(&buffer[..20], 3, 3),
+            ((Why::End, 3, 20), 2, [one, two, done, kept])
         );
-        assert_eq!(stepped.step(read(player, 9)), issued(2));
-        assert_eq!(stepped.step(Step::Deliver { serial: 2 }), Reply::Done);
-        let mut tables = Tables::fresh();
-        let (report, replies) = tables.run_all(session().bytes());
-        assert_eq!(report, stopped(Why::End, 3, 20));
-        assert_eq!(replies, [issued(1), issued(2), Reply::Done]);
-        assert_eq!(tables, stepped);
-    }
-
-    #[test]
-    fn a_run_stops_with_its_budget_and_its_places() {
-        let mut tables = Tables::fresh();
-        let mut replies = [[5; 3]; 3];
         assert_eq!(
-            tables.run(session().bytes(), 1, &mut replies),
-            stopped(Why::Spent, 1, 10)
+            run(&buffer[..20], 1, 3),
+            ((Why::Spent, 1, 10), 1, [one, kept, kept, kept])
         );
-        assert_eq!(replies, [[1, 1, 0], [5; 3], [5; 3]]);
-        let mut tables = Tables::fresh();
         assert_eq!(
-            tables.run(session().bytes(), 9, &mut replies[..2]),
-            stopped(Why::Spent, 2, 14)
+            run(&buffer[..20], 9, 2),
+            ((Why::Spent, 2, 14), 2, [one, two, kept, kept])
         );
-        assert_eq!(replies, [[1, 1, 0], [1, 2, 0], [5; 3]]);
-        let mut tables = Tables::fresh();
+        assert_eq!(run(&buffer, 9, 0), ((Why::Spent, 0, 4), 0, [kept; 4]));
         assert_eq!(
-            tables.run(session().bytes(), 9, &mut []),
-            stopped(Why::Spent, 0, 4)
+            run(&buffer[..21], 9, 4),
+            (
+                (Why::Refused(Refusal::UnknownField), 3, 20),
+                2,
+                [one, two, done, kept]
+            )
         );
-        assert_eq!(tables, Tables::fresh());
-    }
-
-    #[test]
-    fn a_refused_run_alters_nothing() {
-        let mut tables = Tables::fresh();
-        let mut replies = [[5; 3]; 3];
-        let refused = |refusal| stopped(Why::Refused(refusal), 0, 0);
-        assert_eq!(tables.run(&[], 9, &mut replies), refused(Refusal::NoMark));
-        assert_eq!(
-            tables.run(&session().bytes()[1..], 9, &mut replies),
-            refused(Refusal::NoMark)
-        );
-        let mut long = session().bytes().to_vec();
-        long.resize(16_385, 0);
-        assert_eq!(
-            tables.run(&long, 9, &mut replies),
-            refused(Refusal::SessionTooLong)
-        );
-        assert_eq!((tables, replies), (Tables::fresh(), [[5; 3]; 3]));
-    }
-
-    #[test]
-    fn a_refused_record_stops_the_run() {
-        let mut bytes = session().bytes().to_vec();
-        bytes.push(0x40);
-        let mut tables = Tables::fresh();
-        let (report, replies) = tables.run_all(&bytes);
-        assert_eq!(report, stopped(Why::Refused(Refusal::UnknownField), 3, 20));
-        assert_eq!(replies.len(), 3);
-        assert_eq!(tables.last_serial(), 2);
+        let refused = |refusal| ((Why::Refused(refusal), 0, 0), 0, [kept; 4]);
+        assert_eq!(run(&[], 9, 4), refused(Refusal::NoMark));
+        assert_eq!(run(&buffer[1..], 9, 4), refused(Refusal::NoMark));
+        let long = [0; crate::SESSION_BYTES + 1];
+        assert_eq!(run(&long, 9, 4), refused(Refusal::SessionTooLong));
     }
 }
