@@ -2,8 +2,8 @@
 //! the sessions that record every step.
 //!
 //! The library is written in Rattle and proved against its contracts; `rt staticlib famdrize` makes the archive that this crate links. Its
-//! rules are those of the repository's README and docs/FORMATS.md. The types here leave out what the library would refuse: tables have
-//! their lengths and keep their rules, a [`Player`] is 0 to 7, a [`Range`] is not empty.
+//! rules are in docs/RULES.md of the repository, its tables and records in docs/FORMATS.md. The types here leave out what the library would
+//! refuse: tables have their lengths and keep their rules, a [`Player`] is 0 to 7, a [`Range`] is not empty.
 //!
 #![cfg_attr(feature = "alloc", doc = "```")]
 #![cfg_attr(not(feature = "alloc"), doc = "```ignore")]

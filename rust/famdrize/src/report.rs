@@ -36,6 +36,10 @@ impl fmt::Display for Report {
             records,
             place,
         } = self;
+        // only a refused run has taken nothing, not even the mark
+        if *place == 0 {
+            return write!(f, "the run is refused: {why}");
+        }
         let noun = if *records == 1 { "record" } else { "records" };
         write!(
             f,
@@ -52,8 +56,8 @@ pub enum Why {
     End,
     /// 9: the budget or the places for replies are spent.
     Spent,
-    /// 23 or 37: the run is refused, and nothing is altered; 24 to 27: the record at the place is refused, and the steps before it keep
-    /// their effect.
+    /// 21, 22, 37 or 23: the run is refused, and nothing is altered; 24 to 27: the record at the place is refused, and the steps before it
+    /// keep their effect.
     Refused(Refusal),
 }
 
@@ -74,7 +78,8 @@ impl Why {
         match number {
             0 => Some(Why::End),
             9 => Some(Why::Spent),
-            _ => Refusal::from_number(number).map(Why::Refused),
+            21..=27 | 37 => Refusal::from_number(number).map(Why::Refused),
+            _ => None,
         }
     }
 
@@ -105,13 +110,16 @@ mod tests {
         for (why, number) in [
             (Why::End, 0),
             (Why::Spent, 9),
+            (Why::Refused(Refusal::TableLength), 21),
             (Why::Refused(Refusal::NoMark), 23),
             (Why::Refused(Refusal::CutShort), 24),
+            (Why::Refused(Refusal::WrongFields), 27),
+            (Why::Refused(Refusal::SessionTooLong), 37),
         ] {
             assert_eq!(why.number(), number);
             assert_eq!(Why::from_number(number), Some(why));
         }
-        for number in [1, 8, 10, 20, 38] {
+        for number in [1, 8, 10, 20, 28, 32, 36, 38] {
             assert_eq!(Why::from_number(number), None);
         }
     }
@@ -149,7 +157,11 @@ mod tests {
         );
         assert_eq!(
             told(Why::Refused(Refusal::NoMark), 0, 0),
-            "the run stopped at byte 0, after 0 records: the session's mark is wrong or missing (23)"
+            "the run is refused: the session's mark is wrong or missing (23)"
+        );
+        assert_eq!(
+            told(Why::Refused(Refusal::CutShort), 0, 4),
+            "the run stopped at byte 4, after 0 records: a record cut short, or no byte (24)"
         );
     }
 }
