@@ -8,6 +8,8 @@
  * as its elements are; the slices of one call do not overlap unless both are const. Nothing is kept after the call, nothing is allocated,
  * and there is no global state: calls on different tables may run at the same time.
  *
+ * Numbers are handed over at the widths declared here: a wider one is cut by the C compiler before the call, which -Wconversion tells.
+ *
  * Every call ends and keeps to the slices it is lent, whatever they hold. A refusal is its number and zeros, and alters nothing. */
 #ifndef FAMDRIZE_H
 #define FAMDRIZE_H
@@ -60,7 +62,7 @@ enum famdrize_kind {
 /* The codes of replies, each with the reply's two numbers a and b, and of refusals, whose numbers are 0. The reasons for which a run stops
  * are another list, below: a number may stand in both and mean two things. */
 enum famdrize_code {
-    FAMDRIZE_DONE = 0,           /* 0, 0; of the store used alone and of the calls that write, what the call says */
+    FAMDRIZE_DONE = 0,           /* 0, 0; of the store used alone, of counting and of the calls that write, what the call says */
     FAMDRIZE_ISSUED = 1,         /* serial, 0 */
     FAMDRIZE_CACHE_READ = 2,     /* version, value */
     FAMDRIZE_STORE_READ = 3,     /* version, value */
@@ -113,6 +115,27 @@ enum famdrize_why {
 #else
 #define FAMDRIZE_INLINE static
 #endif
+
+/* The words for a kind of step; never null. */
+FAMDRIZE_INLINE const char *famdrize_kind_words(uint32_t kind)
+{
+    switch (kind) {
+    case FAMDRIZE_ASSIGN: return "assign";
+    case FAMDRIZE_RELEASE: return "release";
+    case FAMDRIZE_REQUEST_GUARD: return "ask for a guard";
+    case FAMDRIZE_READ: return "read";
+    case FAMDRIZE_WRITE: return "write";
+    case FAMDRIZE_DELIVER: return "arrive";
+    case FAMDRIZE_RESPOND: return "answer";
+    case FAMDRIZE_ABANDON: return "give up";
+    case FAMDRIZE_LOSE: return "lose";
+    case FAMDRIZE_SPLIT: return "split";
+    case FAMDRIZE_MERGE: return "merge";
+    case FAMDRIZE_RESTART_TABLET: return "tablet restart";
+    case FAMDRIZE_RESTART_PLAYER: return "player restart";
+    default: return "no kind of step";
+    }
+}
 
 /* The words for the code of a reply or refusal; never null. */
 FAMDRIZE_INLINE const char *famdrize_code_words(uint32_t code)

@@ -1,4 +1,5 @@
-/* The words for every code of a reply or refusal, and for every reason for which a run stops. codes.txt is what it prints. */
+/* The words for every code of a reply or refusal, for every reason for which a run stops, and for every kind of step; the numbers that the
+ * header names. codes.txt is what it prints. */
 #include "famdrize.h"
 
 #include <stdio.h>
@@ -20,5 +21,16 @@ int main(void)
 {
     print("codes of replies and refusals", famdrize_code_words);
     print("reasons of a run", famdrize_why_words);
+    print("kinds", famdrize_kind_words);
+    puts("numbers");
+    printf("words of the store's table: %d\n", FAMDRIZE_STORE_WORDS);
+    printf("words of the players' table: %d\n", FAMDRIZE_PLAYERS_WORDS);
+    printf("places for requests: %d\n", FAMDRIZE_REQUESTS);
+    printf("bytes of the longest session: %d\n", FAMDRIZE_SESSION_BYTES);
+    printf("bytes of the longest record: %d\n", FAMDRIZE_RECORD_BYTES);
+    printf("most records of a session: %d\n", FAMDRIZE_SESSION_RECORDS);
+    printf("last serial: %d\n", FAMDRIZE_LAST_SERIAL);
+    printf("bytes of the mark: %d\n", FAMDRIZE_MARK_BYTES);
+    printf("words of a reply: %d\n", FAMDRIZE_REPLY_WORDS);
     return 0;
 }

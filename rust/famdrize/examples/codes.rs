@@ -1,7 +1,8 @@
-//! The words for every code of a reply or refusal, and for every reason for which a run stops.
-//! codes.txt is what it prints.
+//! The words for every code of a reply or refusal, and for every reason for which a run stops; the
+//! numbers that the crate names. codes.txt is what it prints.
 
-use famdrize::{Reply, Why};
+use famdrize::{Reply, Why, MOST_RECORDS, PLAYERS_WORDS};
+use famdrize::{RECORD_BYTES, REQUESTS, SESSION_BYTES, STORE_WORDS};
 
 fn main() {
     println!("codes of replies and refusals");
@@ -17,4 +18,11 @@ fn main() {
             println!("{number} {}", why.words());
         }
     }
+    println!("numbers");
+    println!("words of the store's table: {STORE_WORDS}");
+    println!("words of the players' table: {PLAYERS_WORDS}");
+    println!("places for requests: {REQUESTS}");
+    println!("bytes of the longest session: {SESSION_BYTES}");
+    println!("bytes of the longest record: {RECORD_BYTES}");
+    println!("most records of a session: {MOST_RECORDS}");
 }

@@ -1,4 +1,4 @@
-//! The C interface, as `include/famdrize.h` declares it. The rest of this crate is safe.
+//! The C interface, as `include/famdrize.h` declares it. The rest of this crate offers them as safe calls.
 //!
 //! A lent slice is passed as two arguments, a pointer and the number of its elements. The pointer is not null and is aligned as the
 //! elements are, also where the number is 0: what `as_ptr` of a Rust slice gives is right as it stands. Two slices of one call do not

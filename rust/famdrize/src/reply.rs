@@ -21,7 +21,6 @@ use crate::raw;
 /// ```
 #[derive(Clone, Copy, Debug, PartialEq, Eq, Hash)]
 #[non_exhaustive]
-#[must_use = "the step may be refused"]
 pub enum Reply {
     /// 0: done.
     Done,

@@ -47,7 +47,7 @@ impl Request {
 ///
 /// 21 unless the list has [`REQUESTS`] places.
 pub fn pending(requests: &[Request], player: Player) -> Result<u32, Refusal> {
-    // SAFETY: a slice with its length, of a type laid out as the library's: a bool is one byte, 0 or 1.
+    // SAFETY: a slice with its length, of a type laid out as the library's: a bool is one byte, 0 or 1. Bytes between fields are not read.
     let reply =
         unsafe { raw::famdrize_waiting(requests.as_ptr().cast(), requests.len(), player.number()) };
     Refusal::of_code(reply.code)?;

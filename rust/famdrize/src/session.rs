@@ -160,6 +160,12 @@ impl<'a> SessionMut<'a> {
     pub fn bytes(&self) -> &[u8] {
         &self.buffer[..self.length]
     }
+
+    /// Its bytes, for as long as the buffer is lent.
+    #[must_use]
+    pub fn into_bytes(self) -> &'a [u8] {
+        &self.buffer[..self.length]
+    }
 }
 
 #[cfg(test)]
@@ -337,6 +343,20 @@ mod tests {
         assert_eq!(session.bytes().len(), 16);
         assert_eq!(&buffer[..13], bytes);
         assert_eq!(buffer[13..], [0x05, 0x0B, 0x80]);
+    }
+
+    #[test]
+    fn the_bytes_outlive_what_wrote_them() {
+        fn written(buffer: &mut [u8]) -> Result<&[u8], Refusal> {
+            let mut session = SessionMut::new(buffer)?;
+            session.push(Step::Split { entry: 128 })?;
+            Ok(session.into_bytes())
+        }
+        assert_eq!(
+            written(&mut [0xEE; 9]).unwrap(),
+            [0x52, 0x53, 0x4C, 0x31, 0x05, 0x0A, 0x80]
+        );
+        assert_eq!(written(&mut [0xEE; 6]), Err(Refusal::BufferShort));
     }
 
     #[test]

@@ -89,11 +89,13 @@ impl<'a> TablesMut<'a> {
     }
 
     /// Takes a step.
+    #[must_use = "the step may be refused"]
     pub fn step(&mut self, step: Step) -> Reply {
         self.step_fields(step.into())
     }
 
     /// Takes the step of these fields, which may be refused with 26, 27 or 28.
+    #[must_use = "the step may be refused"]
     pub fn step_fields(&mut self, fields: Fields) -> Reply {
         let Fields {
             kind,

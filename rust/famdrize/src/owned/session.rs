@@ -28,10 +28,12 @@ impl Session {
     ///
     /// 26 and 27 for fields that are no step's, 37 if the session would be too long; the session is kept then.
     pub fn push(&mut self, step: impl Into<Fields>) -> Result<(), Refusal> {
+        // the caller's part first: what comes after it does not panic
+        let fields: Fields = step.into();
         let length = self.bytes.len();
         self.bytes.resize(length + RECORD_BYTES, 0);
         let mut session = SessionMut::kept(&mut self.bytes, length);
-        let pushed = session.push(step);
+        let pushed = session.push(fields);
         let length = session.bytes().len();
         self.bytes.truncate(length);
         pushed

@@ -74,11 +74,13 @@ impl Tables {
     }
 
     /// Takes a step.
+    #[must_use = "the step may be refused"]
     pub fn step(&mut self, step: Step) -> Reply {
         self.lend().step(step)
     }
 
     /// Takes the step of these fields, which may be refused with 26, 27 or 28.
+    #[must_use = "the step may be refused"]
     pub fn step_fields(&mut self, fields: Fields) -> Reply {
         self.lend().step_fields(fields)
     }
