@@ -58,23 +58,16 @@ impl Record {
 ///
 /// 26 and 27 for fields that are no step's, 36 for a buffer that is shorter; the buffer is kept then.
 pub fn encode(step: impl Into<Fields>, out: &mut [u8]) -> Result<usize, Refusal> {
-    let Fields {
-        kind,
-        player,
-        entry,
-        high,
-        value,
-        serial,
-    } = step.into();
+    let fields: Fields = step.into();
     // SAFETY: a slice with its length, lent to be changed.
     let reply = unsafe {
         raw::famdrize_encode(
-            kind,
-            player,
-            entry,
-            high,
-            value,
-            serial,
+            fields.kind,
+            fields.player,
+            fields.entry,
+            fields.high,
+            fields.value,
+            fields.serial,
             out.as_mut_ptr(),
             out.len(),
         )

@@ -97,14 +97,6 @@ impl<'a> TablesMut<'a> {
     /// Takes the step of these fields, which may be refused with 26, 27 or 28.
     #[must_use = "the step may be refused"]
     pub fn step_fields(&mut self, fields: Fields) -> Reply {
-        let Fields {
-            kind,
-            player,
-            entry,
-            high,
-            value,
-            serial,
-        } = fields;
         // SAFETY: two arrays, lent to be changed, so they do not overlap; each with its length.
         let reply = unsafe {
             raw::famdrize_step(
@@ -112,12 +104,12 @@ impl<'a> TablesMut<'a> {
                 self.store.len(),
                 self.players.as_mut_ptr(),
                 self.players.len(),
-                kind,
-                player,
-                entry,
-                high,
-                value,
-                serial,
+                fields.kind,
+                fields.player,
+                fields.entry,
+                fields.high,
+                fields.value,
+                fields.serial,
             )
         };
         Reply::of_step([reply.code, reply.a, reply.b])
