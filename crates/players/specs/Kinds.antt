@@ -1,26 +1,32 @@
 -- The kinds of steps in force: of each its number, its map and its fields. A new kind is a line of each list here. Quoted words are document 01's.
 -- Assumes nothing.
-use mathlib.Core.Bool.{Bool, true, false, cond}
+use mathlib.Core.Bool.{Bool, true, false, cond, not}
 use mathlib.Core.List.{List, [], _∷_}
 use Prim.Native.Nat.{ℕ, zero, suc, _/_, _%_, _<_}
 use lib.ListN.{getD, drop}
 use lib.Dec.{eqb}
 use Rattle.store.specs.declared.Range.{Range}
 use Rattle.players.specs.declared.Step.{Step}
-use Rattle.players.specs.declared.Step.the-variants.{Assign, Release, RequestGuard, Read, Write, Deliver, Respond, Abandon, Lose, Split, Merge, RestartTablet, RestartPlayer}
+use Rattle.players.specs.declared.Step.the-variants.{Assign, Release, RequestGuard, Read, Write, Deliver, Respond, Abandon, Lose, Split, Merge, RestartTablet, RestartPlayer, FindInterval}
 
 -- ---- maps
 
--- "kind not 1 to 13"
-abbrev pub last-kind : ℕ
-last-kind = 13
-
--- "Maps: 0F for kinds 1 and 3; 0D for 2; 07 for 4; 17 for 5; 21 for 6 to 9; 05 for 10 to 12; 03 for 13", from kind 0, which is none
+-- "Maps: 0F for kinds 1 and 3; 0D for 2; 07 for 4; 17 for 5; 21 for 6 to 9; 05 for 10 to 12; 03 for 13", and document 02 §1, "kind 14, map
+-- 05"; from kind 0, which is none
 abbrev pub maps : List ℕ
-maps = 0x00 ∷ 0x0F ∷ 0x0D ∷ 0x0F ∷ 0x07 ∷ 0x17 ∷ 0x21 ∷ 0x21 ∷ 0x21 ∷ 0x21 ∷ 0x05 ∷ 0x05 ∷ 0x05 ∷ 0x03 ∷ []
+maps = 0x00 ∷ 0x0F ∷ 0x0D ∷ 0x0F ∷ 0x07 ∷ 0x17 ∷ 0x21 ∷ 0x21 ∷ 0x21 ∷ 0x21 ∷ 0x05 ∷ 0x05 ∷ 0x05 ∷ 0x03 ∷ 0x05 ∷ []
 
+-- the last of them
+abbrev pub last-kind : ℕ
+last-kind = 14
+
+-- the map of a kind; 0, which is no kind's, where the number is none
 unfoldable pub map-of : ℕ → ℕ
 map-of k = getD maps k 0
+
+-- document 02 §1, "26 means a kind not in force": those in force are the kinds that have a map
+abbrev pub in-force : ℕ → Bool
+in-force k = not (eqb (map-of k) 0)
 
 -- bit 0 stands; the next bit is bit 0 of m / 2
 abbrev pub stands : ℕ → Bool
@@ -43,6 +49,7 @@ kind-and-fields (Split e) = 10 ∷ e ∷ []
 kind-and-fields (Merge e) = 11 ∷ e ∷ []
 kind-and-fields (RestartTablet e) = 12 ∷ e ∷ []
 kind-and-fields (RestartPlayer p) = 13 ∷ p ∷ []
+kind-and-fields (FindInterval e) = 14 ∷ e ∷ []
 
 abbrev pub kind : Step → ℕ
 kind x = getD (kind-and-fields x) 0 0
@@ -68,7 +75,8 @@ step-of k vs =
     (cond (eqb k 10) (Split a)
     (cond (eqb k 11) (Merge a)
     (cond (eqb k 12) (RestartTablet a)
-    (RestartPlayer a))))))))))))
+    (cond (eqb k 13) (RestartPlayer a)
+    (FindInterval a)))))))))))))
 
 -- ---- the six numbers of a step
 

@@ -27,6 +27,7 @@ pub enum Step {
     Merge { entry: u8 }, // 11
     RestartTablet { entry: u8 }, // 12
     RestartPlayer { player: u8 }, // 13
+    FindInterval { entry: u8 }, // 14, how far the entry's guard reaches
 }
 
 // Whether both tables have their lengths.

@@ -1,14 +1,14 @@
 -- Records: what the bytes from a place of the session on stand for, and the bytes of a step. Quoted words are document 01's.
 -- Assumes nothing.
 use mathlib.Core.Path.{_≡_}
-use mathlib.Core.Bool.{cond, _||_}
+use mathlib.Core.Bool.{cond}
 use mathlib.Core.List.{List, [], _∷_, _++_}
 use Prim.Native.Nat.{ℕ, _<_}
 use lib.ListN.{length, getD}
 use lib.Dec.{ltb, leb, eqb}
 use Rattle.requests.specs.Answers.{Numbers, gives, refused}
 use Rattle.players.specs.declared.Step.{Step}
-use Rattle.players.specs.Kinds.{stands, last-kind, map-of, kind-and-fields, kind, step-of}
+use Rattle.players.specs.Kinds.{stands, map-of, in-force, kind-and-fields, kind, step-of}
 use Rattle.session.specs.Layout.{widths, record-length, fields, field-bytes}
 use Rattle.session.specs.Fields.{standing}
 use Rattle.session.specs.declared.Decoded.{Decoded}
@@ -24,7 +24,7 @@ cut-short = 24
 abbrev pub unknown-field : ℕ
 unknown-field = 25
 
--- "kind not 1 to 13": 0, or above the last
+-- document 02 §1, "26 means a kind not in force"
 abbrev pub unknown-kind : ℕ
 unknown-kind = 26
 
@@ -51,8 +51,9 @@ tested s refused taken =
     (cond (leb 64 (map-at s)) (refused unknown-field)
     (cond (ltb (length s) (record-length (map-at s))) (refused cut-short)
     (cond (stands (map-at s))
-    (cond (ltb (kind-at s) 1 || ltb last-kind (kind-at s)) (refused unknown-kind)
-    (cond (eqb (map-at s) (map-of (kind-at s))) taken (refused wrong-fields)))
+    (cond (in-force (kind-at s))
+    (cond (eqb (map-at s) (map-of (kind-at s))) taken (refused wrong-fields))
+    (refused unknown-kind))
     (refused wrong-fields))))
 
 -- the decoder's answer
@@ -63,7 +64,7 @@ decode s = tested s Refused (Record (step-of (kind-at s) (fields-at s)) (record-
 abbrev pub of-numbers : List ℕ → Decoded
 of-numbers vs =
     let k = getD vs 0 0 in
-    cond (ltb k 1 || ltb last-kind k) (Refused unknown-kind) (Record (step-of k (standing (map-of k) vs)) (record-length (map-of k)))
+    cond (in-force k) (Record (step-of k (standing (map-of k) vs)) (record-length (map-of k))) (Refused unknown-kind)
 
 -- ---- the document's numbers
 
