@@ -12,20 +12,32 @@ use lib.Seq.{ext-getD, getD-set-same, getD-set-other}
 use mathlib.Core.Logic.{⊎-elim}
 use borrow.Author.Tests.{eq-eqb, ne-eqb, le-leb, lt-leb, lt-ltb, le-ltb, eqb-true, eqb-false}
 use Rattle.store.specs.Model.{Store, serials, put, unbroken, tablet-first, tablet-end, committed, with-boundary}
-use Rattle.store.specs.Table.{part, seek, guardAt, storeOf, listed, tableOf, valid}
-use Rattle.store.specs.Words.{tested, guarded-words, install-words, read-words, commit-words, split-words, merge-words, restart-words}
-use Rattle.store.specs.Calls.{reply, Result, result, refusal, bad-serial, Done, done, encoded, checked, called, Refines}
+use Rattle.store.specs.Table.{part, storeOf, listed, tableOf, valid}
+use Rattle.store.specs.Words.{tested, found-in, guarded-words, install-words, read-words, commit-words, split-words, merge-words, restart-words, interval-words}
+use Rattle.store.specs.Calls.{reply, guard-interval, Result, result, refusal, bad-serial, Done, done, encoded, checked, called, Refines}
 use Rattle.store.specs.declared.Reply.{Reply}
 use Rattle.store.specs.declared.Range.{Range}
+use Rattle.store.specs.declared.Span.{Span}
 use Rattle.store.proofs.Bools.{decide}
 use Rattle.store.proofs.Lists.{length-listed, getD-listed}
 use Rattle.store.proofs.Parts.{part-set, part-set-below, part-set-above, same-parts}
 use Rattle.store.proofs.Tables.{table-parts, valid-parts, table-store}
+use Rattle.store.proofs.SearchLaws.{found-guard}
 
 -- ---- a call on any words
 
 pub wrong-length : (w : List ℕ → Done) (t : List ℕ) → (length t ≡ 1280 → ⊥) → done (reply 21 0 0) t ≡ tested w t
 wrong-length w t h = rw (ne-eqb (length t) 1280 h)
+
+-- the call that finds an interval
+module _ (t : List ℕ) (e : ℕ) where
+  pub interval-wrong-length : (length t ≡ 1280 → ⊥) → guard-interval 21 0 0 0 ≡ interval-words e t
+  unfolding interval-words
+  interval-wrong-length h = rw (ne-eqb (length t) 1280 h)
+
+  pub interval-is : length t ≡ 1280 → (x : Span) → x ≡ found-in t 0 e → guard-interval 0 (x .guard) (x .first) (x .last) ≡ interval-words e t
+  unfolding interval-words
+  interval-is w x h = rw (eq-eqb (length t) 1280 w, h)
 
 -- ---- one word set
 
@@ -105,26 +117,20 @@ module _ (t : List ℕ) (w : length t ≡ 1280) where
     unfolding read-words
     read-is = rw (eq-eqb (length t) 1280 w)
 
-    -- the guard, as the code finds it
-    abbrev pub found : ℕ
-    found = seek e (getD (take 256 (drop 512 t)) 0 0) (drop 1 (take 256 (drop 256 t))) (drop 1 (take 256 (drop 512 t)))
-
-    found-is : storeOf t .guard e ≡ found
-    unfolding storeOf part guardAt
-    found-is = rw (lt-ltb e 256 h)
-
     module _ (v s g : ℕ) where
       pub commit-zero : g ≡ 0 → done (reply 0 2 0) t ≡ tested (commit-words e v s g) t
       unfolding commit-words
       commit-zero z = rw (eq-eqb (length t) 1280 w, eq-eqb g 0 z)
 
-      pub commit-other : (g ≡ 0 → ⊥) → (found ≡ g → ⊥) → done (reply 0 2 0) t ≡ tested (commit-words e v s g) t
-      unfolding commit-words
-      commit-other z x = rw (eq-eqb (length t) 1280 w, found-is, ne-eqb g 0 z, ne-eqb g found (λ y. x (sym y)))
+      -- the guard, as the search finds it
+      module _ (x : ℕ) (ex : x ≡ found-in t 0 e .guard) where
+        pub commit-other : (g ≡ 0 → ⊥) → (x ≡ g → ⊥) → done (reply 0 2 0) t ≡ tested (commit-words e v s g) t
+        unfolding commit-words
+        commit-other z ne = rw (eq-eqb (length t) 1280 w, ← found-guard t w e h, ← ex, ne-eqb g 0 z, ne-eqb g x (λ y. ne (sym y)))
 
-      pub commit-same : (g ≡ 0 → ⊥) → found ≡ g → done (reply 0 1 0) (set (set t (768 + e) s) (1024 + e) v) ≡ tested (commit-words e v s g) t
-      unfolding commit-words
-      commit-same z x = rw (eq-eqb (length t) 1280 w, found-is, ne-eqb g 0 z, eq-eqb g found (sym x))
+        pub commit-same : (g ≡ 0 → ⊥) → x ≡ g → done (reply 0 1 0) (set (set t (768 + e) s) (1024 + e) v) ≡ tested (commit-words e v s g) t
+        unfolding commit-words
+        commit-same z eg = rw (eq-eqb (length t) 1280 w, ← found-guard t w e h, ← ex, ne-eqb g 0 z, eq-eqb g x (sym eg))
 
     pub split-first : e ≡ 0 → done (reply 28 0 0) t ≡ tested (split-words e) t
     unfolding split-words

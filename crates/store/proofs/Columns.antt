@@ -139,16 +139,16 @@ one-or-two r hi p g e =
     ⊎-elim (λ (x : eqb p g ≡ true). let z : r ≡ 1 = e ∙ rw (w, x) in omega arith) (λ (x : eqb p g ≡ false). let z : r ≡ 2 = e ∙ rw (w, x) in omega arith) (decide (eqb p g)))
     (decide (eqb hi 256))
 
-pub replaced-none : (t : List ℕ) (a b c s hi g m : ℕ) → m ≡ pieces hi (getD t (511 + b) 0) g → 256 < a + m + (c - b) → t ≡ replaced t a b c s hi g
+pub replaced-none : (t : List ℕ) (a b c s hi g l m : ℕ) → m ≡ pieces hi l g → 256 < a + m + (c - b) → t ≡ replaced t a b c s hi g l
 unfolding replaced
-replaced-none t a b c s hi g m e h = rw (← e, lt-leb (a + m + (c - b)) 256 h)
+replaced-none t a b c s hi g l m e h = rw (← e, lt-leb (a + m + (c - b)) 256 h)
 
 pub replaced-put :
-    (t : List ℕ) → length t ≡ 1280 → (a b c s hi g m : ℕ) → m ≡ pieces hi (getD t (511 + b) 0) g → b ≤ c → c ≤ 256 → a + m + (c - b) ≤ 256
-    → (p q : List ℕ) → p ≡ spliced (part 256 t) a b c m s hi → q ≡ spliced (part 512 (putMid 256 256 t p)) a b c m g (getD t (511 + b) 0)
-    → putMid 512 256 (putMid 256 256 t p) q ≡ replaced t a b c s hi g
+    (t : List ℕ) → length t ≡ 1280 → (a b c s hi g l m : ℕ) → m ≡ pieces hi l g → b ≤ c → c ≤ 256 → a + m + (c - b) ≤ 256
+    → (p q : List ℕ) → p ≡ spliced (part 256 t) a b c m s hi → q ≡ spliced (part 512 (putMid 256 256 t p)) a b c m g l
+    → putMid 512 256 (putMid 256 256 t p) q ≡ replaced t a b c s hi g l
 unfolding replaced
-replaced-put t w a b c s hi g m e i j h p q ep eq =
+replaced-put t w a b c s hi g l m e i j h p q ep eq =
     let A : List ℕ = part 0 t in
     let B : List ℕ = part 256 t in
     let C : List ℕ = part 512 t in
@@ -165,4 +165,4 @@ replaced-put t w a b c s hi g m e i j h p q ep eq =
     let lap : length (A ++ p) ≡ 512 = rw length-append (omega arith) in
     let both : putMid 512 256 (putMid 256 256 t p) q ≡ A ++ (p ++ (q ++ D)) =
     ap (λ (x : List ℕ). putMid 512 256 x q) (first ∙ sym (append-assoc A p (C ++ D))) ∙ put-at 512 256 (A ++ p) C D q lap lc ∙ append-assoc A p (q ++ D) in
-    both ∙ rw (← e, le-leb (a + m + (c - b)) 256 h, ep, eq ∙ ap (λ (x : List ℕ). spliced x a b c m g (getD t (511 + b) 0)) third)
+    both ∙ rw (← e, le-leb (a + m + (c - b)) 256 h, ep, eq ∙ ap (λ (x : List ℕ). spliced x a b c m g l) third)

@@ -11,9 +11,10 @@ use lib.ListN.{length, getD}
 use borrow.Author.Tests.{eqb-true}
 use Rattle.store.specs.Model.{Store, serials, bad-range, one-tablet, commits}
 use Rattle.store.specs.Table.{storeOf, tableOf, valid}
-use Rattle.store.specs.Calls.{reply, Result, refusal, outcome, bad-serial, Done, done, encoded, called, made-fresh, install, read, commit, split, merge, restart, set-guard, write}
-use Rattle.store.specs.Words.{tested, install-words, read-words, commit-words, split-words, merge-words, restart-words}
+use Rattle.store.specs.Calls.{reply, Result, refusal, outcome, bad-serial, Done, done, encoded, called, made-fresh, install, read, commit, split, merge, restart, set-guard, write, guard-interval, found-interval}
+use Rattle.store.specs.Words.{tested, install-words, read-words, commit-words, split-words, merge-words, restart-words, interval-words}
 use Rattle.store.specs.declared.Range.{Range}
+use Rattle.store.specs.declared.Interval.{Interval}
 use Rattle.store.proofs.Tables.{table-store}
 
 -- ---- by the rules: a refusal leaves the store
@@ -88,6 +89,29 @@ module _ (t : List ℕ) where
 
   pub restart-keeps : (e : ℕ) → Keeps t (called (restart e) t)
   restart-keeps e = called-keeps (restart e) t (restart-stays (storeOf t) e)
+
+-- ---- the call that finds an interval, which leaves the table: its number and zeros
+
+pub record NoInterval (x : Interval) : Type 0 where
+  pub none : 21 ≤ x .code → x ≡ guard-interval (x .code) 0 0 0
+
+no-interval : (n : ℕ) → NoInterval (guard-interval n 0 0 0)
+no-interval n = record { none = λ h. refl }
+
+an-interval : (g a b : ℕ) → NoInterval (guard-interval 0 g a b)
+an-interval g a b = record { none = λ h. absurd (omega arith) }
+
+or-interval : (b : Bool) (x y : Interval) → NoInterval x → NoInterval y → NoInterval (cond b x y)
+or-interval true x y h k = h
+or-interval false x y h k = k
+
+module _ (t : List ℕ) (e : ℕ) where
+  pub find-interval-refused : NoInterval (found-interval e t)
+  find-interval-refused = or-interval (eqb (length t) 1280) _ _ (or-interval (valid serials t) _ _ (an-interval _ _ _) (no-interval 22)) (no-interval 21)
+
+  pub interval-words-refused : NoInterval (interval-words e t)
+  unfolding interval-words
+  interval-words-refused = or-interval (eqb (length t) 1280) _ _ (an-interval _ _ _) (no-interval 21)
 
 -- ---- the calls without the test of the rules, and making a table fresh
 

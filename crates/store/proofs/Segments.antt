@@ -68,7 +68,7 @@ stands-coded n f ss ls hs hl b r =
 
 -- ---- how many begin before an entry
 
-place-zeros : (x m : ℕ) → place x (replicate m 0) ≡ 0
+pub place-zeros : (x m : ℕ) → place x (replicate m 0) ≡ 0
 unfolding place
 place-zeros x zero = refl
 place-zeros x (suc m) = refl

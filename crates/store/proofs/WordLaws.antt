@@ -11,9 +11,10 @@ use borrow.Author.Tests.{eq-eqb, ne-eqb, lt-ltb, eqb-true, eqb-false, ltb-true, 
 use Rattle.store.specs.Model.{Store, bad-range, one-tablet, guarded, commits}
 use Rattle.store.specs.Table.{part, storeOf, tableOf, valid}
 use Rattle.store.specs.Calls.{reply, Result, result, Done, done, encoded, Refines, install, read, commit, split, merge, restart}
-use Rattle.store.specs.Words.{tested, place, replaced, guarded-words, install-words, read-words, commit-words, split-words, merge-words, restart-words}
+use Rattle.store.specs.Words.{tested, found-in, replaced, guarded-words, install-words, read-words, commit-words, split-words, merge-words, restart-words}
 use Rattle.store.specs.declared.Reply.{Reply}
 use Rattle.store.specs.declared.Range.{Range}
+use Rattle.store.specs.declared.Span.{Span}
 use Rattle.store.proofs.Parts.{part-at}
 use Rattle.store.proofs.Tables.{table-store}
 use Rattle.store.proofs.TabletLaws.{tablet-range}
@@ -26,14 +27,14 @@ second : (a b : Bool) (x y : List ℕ) → (a ≡ true → b ≡ true) → cond 
 second true b x y f = rw (f refl)
 second false b x y f = refl
 
-module _ (t : List ℕ) (lo hi g : ℕ) (x b c : ℕ) (ex : x ≡ 1 + place lo (drop 1 (part 256 t))) (eb : b ≡ x + place (hi + 1) (drop x (part 256 t))) (ec : c ≡ b + place 256 (drop b (part 256 t))) where
-  pub new-words : 0 < lo → (getD t (511 + x) 0 ≡ g → ⊥) → replaced t x b c lo hi g ≡ guarded-words lo hi g t
+module _ (t : List ℕ) (lo hi g : ℕ) (x y z : Span) (ex : x ≡ found-in t 0 (lo - 1)) (ey : y ≡ found-in t (x .ordinal) hi) (ez : z ≡ found-in t (y .ordinal) 255) where
+  pub new-words : 0 < lo → (x .guard ≡ g → ⊥) → replaced t (x .ordinal + 1) (y .ordinal + 1) (z .ordinal + 1) lo hi g (y .guard) ≡ guarded-words lo hi g t
   unfolding guarded-words
-  new-words o ne = rw (← ex, ← eb, ← ec, lt-ltb 0 lo o, ne-eqb (getD t (511 + x) 0) g ne)
+  new-words o ne = rw (← ex, ← ey, ← ez, lt-ltb 0 lo o, ne-eqb (x .guard) g ne)
 
-  pub on-words : (0 < lo → getD t (511 + x) 0 ≡ g) → replaced t (x - 1) b c (getD t (255 + x) 0) hi g ≡ guarded-words lo hi g t
+  pub on-words : (0 < lo → x .guard ≡ g) → replaced t (x .ordinal) (y .ordinal + 1) (z .ordinal + 1) (x .first) hi g (y .guard) ≡ guarded-words lo hi g t
   unfolding guarded-words
-  on-words eg = rw (← ex, ← eb, ← ec) (sym (second (ltb 0 lo) (eqb (getD t (511 + x) 0) g) _ _ (λ o. eq-eqb (getD t (511 + x) 0) g (eg (ltb-true 0 lo o)))))
+  on-words eg = rw (← ex, ← ey, ← ez) (sym (second (ltb 0 lo) (eqb (x .guard) g) _ _ (λ o. eq-eqb (x .guard) g (eg (ltb-true 0 lo o)))))
 
 -- one of two ways
 either : (b : Bool) (x y z : List ℕ) → (b ≡ true → x ≡ z) → (b ≡ false → y ≡ z) → cond b x y ≡ z
@@ -54,12 +55,12 @@ module _ (n : ℕ) (t : List ℕ) (w : length t ≡ 1280) (v : T (valid n t)) wh
   pub guarded-words-right : (lo hi g : ℕ) → lo < hi → hi ≤ 256 → guarded-words lo hi g t ≡ tableOf (guarded (storeOf t) lo hi g)
   unfolding guarded-words
   guarded-words-right lo hi g h k =
-      let x = 1 + place lo (drop 1 (part 256 t)) in
-      either (ltb 0 lo && not (eqb (getD t (511 + x) 0) g)) _ _ _
+      let x = found-in t 0 (lo - 1) .guard in
+      either (ltb 0 lo && not (eqb x g)) _ _ _
       (λ e.
       let o = both _ _ e in
-      guarded-new t w lo hi g h k n v _ _ _ refl refl refl (ltb-true 0 lo (o .0)) (eqb-false _ g (o .1)))
-      (λ e. guarded-on t w lo hi g h k n v _ _ _ refl refl refl (λ o. eqb-true _ g (not-both _ _ e (lt-ltb 0 lo o))))
+      guarded-new t w lo hi g h k n v (ltb-true 0 lo (o .0)) (eqb-false x g (o .1)))
+      (λ e. guarded-on t w lo hi g h k n v (λ o. eqb-true x g (not-both _ _ e (lt-ltb 0 lo o))))
 
   -- the table stays
   same : (r : Reply) → done r t ≡ encoded (result r (storeOf t))

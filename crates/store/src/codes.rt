@@ -17,6 +17,8 @@ pub const NOT_HELD: u32 = 7;
 
 pub const LAYOUT_CHANGED: u32 = 8;
 
+pub const INTERVAL: u32 = 9;
+
 // Refusals.
 pub const WRONG_LENGTH: u32 = 21;
 

@@ -13,10 +13,8 @@ pub const VALUES: usize = VERSIONS + ENTRIES;
 
 pub const WORDS: usize = VALUES + ENTRIES;
 
-// The words before the starts and the guards: the start and the guard of the interval before place k stand k words further.
-pub const BEFORE_STARTS: usize = STARTS - 1;
-
-pub const BEFORE_GUARDS: usize = GUARDS - 1;
+// The last entry.
+pub const LAST_ENTRY: u32 = 255;
 
 // The last serial.
 pub const SERIALS: u32 = 4_000_000;

@@ -7,15 +7,6 @@ use Rattle.store.proofs.Columns.{one-or-two, replaced-none, replaced-pu
 use Rattle.store.proofs.guards.replace.Statement.{statement}
 use Rattle.store.proofs.guards.replace.Tie as tie
 
-add-last : tie.Need-add-last
-add-last c = search needs
-
-mul-last : tie.Need-mul-last
-mul-last c = search needs
-
-slice-read-last : tie.Need-slice-read-last
-slice-read-last c = search needs
-
 new-intervals-requires : tie.Need-new-intervals-requires
 new-intervals-requires c κs = search needs
 
@@ -29,7 +20,7 @@ add-if1-2 : tie.Need-add-if1-2
 add-if1-2 c = omega (arith, one-or-two _ _ _ _ (c .new-intervals .ensures) .1)
 
 returns : tie.Need-returns
-returns c = replaced-none _ _ _ _ _ _ _ _ (c .before .new-intervals .ensures) (c .if1 .taken)
+returns c = replaced-none _ _ _ _ _ _ _ _ _ (c .before .new-intervals .ensures) (c .if1 .taken)
 
 sub-splice : tie.Need-sub-splice
 sub-splice c = search needs
@@ -69,17 +60,14 @@ returns-2 : tie.Need-returns-2
 unfolding part
 returns-2 c =
     let e = c .before .before .before .before .before .before .before .before in
-    let b = e .before .before .before .before in
-    replaced-put (b .args .store .now) (b .pre .0) _ _ _ _ _ _ _ (e .before .new-intervals .ensures) (b .pre .3) (b .pre .4) (e .if1 .left) _ _
+    let b = e .before .before .before in
+    replaced-put (b .args .store .now) (b .pre .0) _ _ _ _ _ _ _ _ (e .before .new-intervals .ensures) (b .pre .2) (b .pre .3) (e .if1 .left) _ _
     (c .before .before .before .before .before .before .splice .ensures) (c .before .before .splice2 .ensures)
 
 pub replace-spec : {M : Type 1} → statement M
 replace-spec =
     tie.close
     (tie.spec
-    add-last
-    mul-last
-    slice-read-last
     new-intervals-requires
     add-if1
     sub-if1
