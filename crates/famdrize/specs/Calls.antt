@@ -3,6 +3,8 @@
 use mathlib.Core.List.{List, [], _∷_}
 use Prim.Native.Nat.{ℕ}
 use Rattle.store.specs.declared.Reply.{Reply}
+use Rattle.store.specs.declared.Interval.{Interval}
+use Rattle.store.specs.Calls.{guard-interval}
 use Rattle.players.specs.declared.Step.{Step}
 use Rattle.players.specs.Replies.{reply, refusal}
 use Rattle.players.specs.Calls.{Done, left}
@@ -16,12 +18,17 @@ use Rattle.session.specs.declared.Report.{Report}
 use Rattle.session.specs.Runs.{report}
 use Rattle.famdrize.specs.declared.Answer.{Answer}
 use Rattle.famdrize.specs.declared.Ended.{Ended}
+use Rattle.famdrize.specs.declared.GuardInterval.{GuardInterval}
 use Rattle.famdrize.specs.declared.RecordFields.{RecordFields}
 use Rattle.famdrize.specs.Fields.{stated, on-stated}
 
 -- the reply that an answer is
 abbrev pub reply-of : Answer → Reply
 reply-of x = reply (x .code) (x .a) (x .b)
+
+-- the answer of the store's call that finds an interval
+abbrev pub interval-of : GuardInterval → Interval
+interval-of x = guard-interval (x .code) (x .guard) (x .first) (x .last)
 
 -- the report that a run's end is
 abbrev pub report-of : Ended → Report

@@ -1,11 +1,12 @@
 // The store used alone.
 use crate::Answer;
+use crate::GuardInterval;
 use crate::given;
 use store::Range;
 ghost use mathlib.Core.Path.{_≡_};
-ghost use Rattle.store.specs.Calls.{done, checked, called, made-fresh, set-guard, read, write, split, merge, restart};
+ghost use Rattle.store.specs.Calls.{done, checked, called, made-fresh, set-guard, read, write, split, merge, restart, found-interval};
 ghost use Rattle.players.specs.Cases.{range};
-ghost use Rattle.famdrize.specs.Calls.{reply-of};
+ghost use Rattle.famdrize.specs.Calls.{reply-of, interval-of};
 ghost use Rattle.store.specs.Model.{serials};
 
 // Makes the table fresh.
@@ -89,4 +90,18 @@ pub extern "C" fn famdrize_store_restart(store: &mut [u32], entry: u8) -> Answer
     ensures { λ r. ⌜ done (reply-of r) (now (store .exit)) ≡ called (restart entry) (now (store .entry)) ⌝ }
 {
     given(store::restart(store, entry))
+}
+
+// The guard of an entry, and the first and the last entry of its interval.
+#[no_mangle]
+pub extern "C" fn famdrize_store_find_interval(store: &[u32], entry: u8) -> GuardInterval
+    ensures { λ r. ⌜ interval-of r ≡ found-interval entry (now (store .entry)) ⌝ }
+{
+    let found = store::find_interval(store, entry);
+    GuardInterval {
+        code: found.code,
+        guard: found.guard,
+        first: found.first,
+        last: found.last,
+    }
 }

@@ -20,6 +20,15 @@ pub struct Answer {
     pub b: u32,
 }
 
+// A guard, and the first and the last entry of its interval: code 0, or the code of a refusal and zeros.
+#[repr(C)]
+pub struct GuardInterval {
+    pub code: u32,
+    pub guard: u32,
+    pub first: u32,
+    pub last: u32,
+}
+
 // What stands at a place of a session: code 0, the record's length and the step by its fields, or the code of a refusal and zeros.
 #[repr(C)]
 pub struct RecordFields {
