@@ -2,7 +2,7 @@
 //!
 //! What implements it can be compared with the model (`compare`) and measured (`bench`): the proved
 //! library behind its `extern "C"` calls, and the port of its code to Rust. Numbers are those of
-//! document 01; `docs/FORMATS.md` gives the tables to the word.
+//! documents 01 and 02; `docs/FORMATS.md` gives the tables to the word.
 
 #![forbid(unsafe_code)]
 #![warn(missing_docs)]
@@ -101,6 +101,27 @@ impl Decoded {
     }
 }
 
+/// What is found of an entry in the store used alone: code 0 with its guard, and the first and the
+/// last entry of its guard interval; or a refusal's number with zeros.
+#[derive(Clone, Copy, Debug, Default, PartialEq, Eq)]
+#[allow(missing_docs)]
+pub struct Interval {
+    pub code: u32,
+    pub guard: u32,
+    pub first: u32,
+    pub last: u32,
+}
+
+impl Interval {
+    /// A refusal: its number, and zeros.
+    pub fn refused(code: u32) -> Interval {
+        Interval {
+            code,
+            ..Interval::default()
+        }
+    }
+}
+
 /// One place of the lent list of requests. Its marks are numbers: a mark stands where its number is
 /// not 0.
 #[derive(Clone, Copy, Debug, Default, PartialEq, Eq)]
@@ -162,6 +183,11 @@ pub trait Library {
     fn store_check_at(&self, store: &[u32], last: u32) -> Reply;
     /// The version and value of an entry.
     fn store_read(&self, store: &[u32], entry: u8) -> Reply;
+    /// The guard of an entry, and the first and last entry of its guard interval. A library that does
+    /// not know kind 14 has no such call, and is not asked.
+    fn store_find_interval(&self, _store: &[u32], _entry: u8) -> Interval {
+        unimplemented!("a library of the kinds 1 to {}", self.kinds())
+    }
     /// A write that carries a guard.
     fn store_write(
         &self,

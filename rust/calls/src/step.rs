@@ -176,6 +176,8 @@ kinds! {
     12 RestartTablet { entry: u8 }
     /// Kind 13, "player restart".
     13 RestartPlayer { player: u8 }
+    /// Kind 14, document 02 §1, "How far a guard reaches".
+    14 FindInterval { entry: u8 }
 }
 
 impl Step {
@@ -240,7 +242,8 @@ mod tests {
         }
     }
 
-    /// "26 kind not 1 to 13", then 27 for each field that the kind lacks.
+    /// "From here on 26 means a kind not in force" (document 02 §1), then 27 for each field that the
+    /// kind lacks.
     #[test]
     fn other_fields_are_refused() {
         for kind in 0..=u8::MAX {

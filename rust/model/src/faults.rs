@@ -96,11 +96,25 @@ pub enum Fault {
     RejectedKeepsGuards,
     /// "a player that never remembers, which demand 3 would let by"
     NeverCaches,
+    /// A guard interval ends at the boundaries of the entry's tablet.
+    IntervalCutToTablet,
+    /// A guard interval of more than one entry begins an entry late.
+    IntervalBeginsLate,
+    /// A guard interval of more than one entry ends an entry early.
+    IntervalEndsEarly,
+    /// The entry after a guard interval is given for its last, as a range's high.
+    IntervalEndsBehind,
+    /// An entry with guard 0 is a guard interval by itself.
+    UnguardedAlone,
+    /// The store used alone finds a guard interval, and gives 0 for its guard.
+    IntervalWithoutGuard,
+    /// Step 14 takes a serial, where one is left.
+    IntervalTakesSerial,
 }
 
 impl Fault {
     /// Every fault.
-    pub const ALL: [Fault; 28] = [
+    pub const ALL: [Fault; 35] = [
         Fault::ReadBesideWriteCached,
         Fault::LateGuardGranted,
         Fault::AbandonKeepsGuards,
@@ -129,6 +143,13 @@ impl Fault {
         Fault::ZeroGuardCommits,
         Fault::RejectedKeepsGuards,
         Fault::NeverCaches,
+        Fault::IntervalCutToTablet,
+        Fault::IntervalBeginsLate,
+        Fault::IntervalEndsEarly,
+        Fault::IntervalEndsBehind,
+        Fault::UnguardedAlone,
+        Fault::IntervalWithoutGuard,
+        Fault::IntervalTakesSerial,
     ];
 
     /// Whether some list of steps breaks demand 3 with this fault. The others change replies or
@@ -146,6 +167,13 @@ impl Fault {
     /// - `RejectedKeepsGuards`: a guard once replaced at the store never comes back there, so
     ///   the writes under it are rejected for ever and what is cached stays right.
     /// - `NeverCaches`: demand 3 asks no read to be served from memory.
+    /// - `IntervalCutToTablet`, `IntervalBeginsLate`, `IntervalEndsEarly`, `IntervalEndsBehind`,
+    ///   `UnguardedAlone`: document 02 §1, step 14 "is neither read nor write in the line", so its
+    ///   two numbers are in no sentence of it.
+    /// - `IntervalWithoutGuard`: the same, and its guard is not even in the reply of step 14. Only
+    ///   the store used alone shows it.
+    /// - `IntervalTakesSerial`: a serial that nothing gets leaves a gap, and no sentence of demand 3
+    ///   is about gaps.
     pub fn breaks_demand_3(self) -> bool {
         !matches!(
             self,
@@ -155,6 +183,13 @@ impl Fault {
                 | Fault::ZeroGuardCommits
                 | Fault::RejectedKeepsGuards
                 | Fault::NeverCaches
+                | Fault::IntervalCutToTablet
+                | Fault::IntervalBeginsLate
+                | Fault::IntervalEndsEarly
+                | Fault::IntervalEndsBehind
+                | Fault::UnguardedAlone
+                | Fault::IntervalWithoutGuard
+                | Fault::IntervalTakesSerial
         )
     }
 }

@@ -56,10 +56,11 @@ impl Phase {
         kinds: [true; KINDS as usize],
     };
 
-    fn draw(rng: &mut Prng, longest: u32) -> Phase {
+    /// A phase of steps of the kinds 1 up to this one.
+    fn draw(rng: &mut Prng, longest: u32, kinds: u8) -> Phase {
         let mut phase = Phase::NONE;
         phase.left = rng.between(1, longest);
-        for kind in &mut phase.kinds {
+        for kind in &mut phase.kinds[..usize::from(kinds)] {
             *kind = rng.chance(40);
         }
         phase
@@ -76,7 +77,7 @@ enum Taken {
 
 /// How often each kind is drawn before a profile changes it; those after the last that stands here as often as it.
 const WEIGHTS: [u32; KINDS as usize] = {
-    let first = [8, 1, 20, 40, 40, 80, 80, 12, 5, 2, 3, 2];
+    let first = [8, 1, 20, 40, 40, 80, 80, 12, 5, 2, 3, 2, 2, 6];
     let mut weights = [first[first.len() - 1]; KINDS as usize];
     let mut at = 0;
     while at < first.len() {
@@ -90,7 +91,7 @@ impl Profile {
     /// A new profile, of steps of the kinds 1 up to this one.
     pub fn draw(rng: &mut Prng, kinds: u8) -> Profile {
         let mut weights = WEIGHTS;
-        for weight in &mut weights {
+        for weight in &mut weights[..usize::from(kinds)] {
             *weight *= [0, 1, 1, 2, 4][rng.index(5)];
         }
         // Without these nothing happens.
@@ -123,7 +124,7 @@ impl Profile {
         if self.longest_phase > 0 {
             match self.phase.left.checked_sub(1) {
                 Some(left) => self.phase.left = left,
-                None => self.phase = Phase::draw(rng, self.longest_phase),
+                None => self.phase = Phase::draw(rng, self.longest_phase, self.kinds),
             }
         }
         if rng.chance(self.stray) {

@@ -1,9 +1,10 @@
-//! An independent model of document 01, "Guards, players and cached reads in a reel store".
+//! An independent model of document 01, "Guards, players and cached reads in a reel store", and of the
+//! requests of document 02 that are in force: §1, how far a guard reaches.
 //!
 //! It is written from the text of the documents alone, so that the proved library can be compared
 //! with it: reply for reply, and word for word of both tables. Sentences of document 01 stand in
-//! quotation marks beside the code that does what they say; "reading n" is an item of the written
-//! readings of document 01.
+//! quotation marks beside the code that does what they say, those of document 02 with their
+//! paragraph; "reading n" is an item of the written readings of document 01.
 //!
 //! | document 01 | here |
 //! |---|---|

@@ -2,7 +2,7 @@
 
 use calls::Reply;
 
-/// The codes of the section "Replies".
+/// The codes of the section "Replies", and of document 02.
 pub mod code {
     /// "0: done, zeros."
     pub const DONE: u32 = 0;
@@ -22,6 +22,8 @@ pub mod code {
     pub const NOT_HELD: u32 = 7;
     /// "8: layout changed", with serial, 0.
     pub const LAYOUT_CHANGED: u32 = 8;
+    /// Document 02 §1: "9 with first and last entry".
+    pub const INTERVAL: u32 = 9;
 }
 
 /// "Who can cause a refusal": the listed numbers.
@@ -37,7 +39,7 @@ pub enum Refusal {
     RecordCut = 24,
     /// "25 bit 6 or 7 set"
     RecordBits = 25,
-    /// "26 kind not 1 to 13"
+    /// Document 02 §1: "From here on 26 means a kind not in force."
     RecordKind = 26,
     /// "27 kind missing, or other fields than the kind's"
     RecordFields = 27,
@@ -65,7 +67,7 @@ pub enum Refusal {
 }
 
 impl Refusal {
-    /// The refusal's number in document 01.
+    /// The refusal's number.
     pub const fn number(self) -> u32 {
         self as u32
     }

@@ -1,4 +1,4 @@
-//! The thirteen steps on a state that keeps the table rules.
+//! The steps on a state that keeps the table rules: those of document 01, and kind 14 of document 02.
 //!
 //! "For a step: 21, 22, 28, 29, 30, 31, 32, 35, 33, 34." The first two belong to the tables of
 //! words (see `tables`); the others are tested here in this order, and a refused step changes
@@ -23,7 +23,8 @@ pub fn step_with(state: &mut State, step: Step, faults: &impl Switches) -> Reply
 }
 
 /// What each kind of step can reply, kind 1 first, but for 21 and 22: "Step 1 to 5 give 1 unless
-/// read from memory; 7 gives 3 to 8; the rest 0", and "Who can cause a refusal".
+/// read from memory; 7 gives 3 to 8; the rest 0", and "Who can cause a refusal"; of kind 14, document
+/// 02 §1.
 pub const REPLIES: [&[u32]; KINDS as usize] = [
     // "1 assign, 2 release: take a serial": 1; 28 player, range; 34. They test no owner.
     &[1, 28, 34],
@@ -44,6 +45,8 @@ pub const REPLIES: [&[u32]; KINDS as usize] = [
     &[0, 28, 35],
     &[0],
     &[0, 28],
+    // Document 02 §1: "replies 9 with first and last entry". Every entry has a guard, 0 or another.
+    &[9],
 ];
 
 fn perform(state: &mut State, step: Step, faults: &impl Switches) -> Result<Reply, Refusal> {
@@ -69,6 +72,7 @@ fn perform(state: &mut State, step: Step, faults: &impl Switches) -> Result<Repl
             Ok(Reply::DONE)
         }
         Step::RestartPlayer { player } => restart_player(state, player, faults),
+        Step::FindInterval { entry } => Ok(find_interval(state, entry, faults)),
     }
 }
 
@@ -480,4 +484,14 @@ fn restart_player(state: &mut State, player: u8, faults: &impl Switches) -> Resu
         request.abandoned |= given_up(request);
     }
     Ok(Reply::DONE)
+}
+
+/// Document 02 §1: "A step of kind 14, map 05, replies 9 with first and last entry and alters
+/// nothing."
+fn find_interval(state: &mut State, entry: u8, faults: &impl Switches) -> Reply {
+    let found = state.store.find_interval(entry, faults);
+    if faults.has(Fault::IntervalTakesSerial) {
+        state.last_serial = next_serial(state).unwrap_or(MAX_SERIAL);
+    }
+    Reply::new(code::INTERVAL, found.first as u32, found.last as u32)
 }

@@ -1,5 +1,5 @@
 //! The store's side: "borders, guards, stamps and values, with what step 6 does to them and steps
-//! 10 to 12".
+//! 10 to 12"; and how far a guard reaches (document 02 §1).
 
 use calls::Range;
 
@@ -14,6 +14,18 @@ pub struct Versioned {
     pub version: u32,
     /// The value.
     pub value: u32,
+}
+
+/// An entry's guard, and its guard interval's ends. Document 02 §1: "Finding an entry's guard must
+/// also give its stretch's first and last entry".
+#[derive(Clone, Copy, Debug, PartialEq, Eq)]
+pub struct Interval {
+    /// The guard, 0 for none.
+    pub guard: u32,
+    /// The first entry.
+    pub first: usize,
+    /// The last entry.
+    pub last: usize,
 }
 
 /// A guard request's outcome, "1 or 2 (set or layout changed...)".
@@ -74,6 +86,47 @@ impl Store {
         let begin = (0..=entry).rev().find(|&e| self.boundaries[e]);
         let end = (entry + 1..ENTRIES).find(|&e| self.boundaries[e]);
         begin.unwrap_or(0)..end.unwrap_or(ENTRIES)
+    }
+
+    /// The longest row of neighbouring entries, this one among them, that have one guard, be it 0 or
+    /// not. Tablets do not cut it.
+    pub fn find_interval(&self, entry: u8, faults: &impl Switches) -> Interval {
+        let entry = usize::from(entry);
+        let guard = self.guards[entry];
+        let (mut first, mut last) = (entry, entry);
+        while first > 0 && self.guards[first - 1] == guard {
+            first -= 1;
+        }
+        while last + 1 < ENTRIES && self.guards[last + 1] == guard {
+            last += 1;
+        }
+        self.mistaken(entry, Interval { guard, first, last }, faults)
+    }
+
+    /// What the faults of guard intervals make of a right one.
+    fn mistaken(&self, entry: usize, mut found: Interval, faults: &impl Switches) -> Interval {
+        let several = found.first < found.last;
+        if faults.has(Fault::IntervalCutToTablet) {
+            let tablet = self.tablet(entry as u8);
+            found.first = found.first.max(tablet.start);
+            found.last = found.last.min(tablet.end - 1);
+        }
+        if faults.has(Fault::IntervalBeginsLate) && several {
+            found.first += 1;
+        }
+        if faults.has(Fault::IntervalEndsEarly) && several {
+            found.last -= 1;
+        }
+        if faults.has(Fault::IntervalEndsBehind) {
+            found.last += 1;
+        }
+        if faults.has(Fault::UnguardedAlone) && found.guard == 0 {
+            (found.first, found.last) = (entry, entry);
+        }
+        if faults.has(Fault::IntervalWithoutGuard) {
+            found.guard = 0;
+        }
+        found
     }
 
     /// "Guard request: if the range lies in one tablet the guard is set over it, else the outcome

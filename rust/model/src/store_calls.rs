@@ -2,9 +2,10 @@
 //!
 //! Reading 20: "The store used alone tests 21, 22, 28, 35 in that order. A write's carried guard
 //! is not tested (0 or a strange number is turned back). Setting a guard replies 0, outcome, 0; a
-//! read 0, version, value; a write 0, outcome, 0."
+//! read 0, version, value; a write 0, outcome, 0." Document 02 §1 adds a guard interval, which has its
+//! own four numbers.
 
-use calls::{Range, Reply};
+use calls::{Interval, Range, Reply};
 
 use crate::faults::{NoFault, Switches};
 use crate::numbers::{Entries, MAX_SERIAL};
@@ -75,6 +76,28 @@ pub fn read(words: &[u32], entry: u8) -> Reply {
             Reply::new(code::DONE, held.version, held.value)
         }
         Err(error) => Reply::from(error.refusal()),
+    }
+}
+
+/// Document 02 §1: "Finding an entry's guard must also give its stretch's first and last entry". It
+/// is 0 with the three, or 21, 22.
+pub fn find_interval(words: &[u32], entry: u8) -> Interval {
+    find_interval_with(words, entry, &NoFault)
+}
+
+/// The same with a fault.
+pub fn find_interval_with(words: &[u32], entry: u8, faults: &impl Switches) -> Interval {
+    match decode_store(words, MAX_SERIAL) {
+        Ok(store) => {
+            let found = store.find_interval(entry, faults);
+            Interval {
+                code: code::DONE,
+                guard: found.guard,
+                first: found.first as u32,
+                last: found.last as u32,
+            }
+        }
+        Err(error) => Interval::refused(error.refusal().number()),
     }
 }
 

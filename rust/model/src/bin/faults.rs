@@ -7,8 +7,8 @@ use model::codec::session_text;
 use model::faults::{Fault, NoFault};
 use model::trial::search;
 
-/// The seed with which all are found within 900,000 steps; another one as the first argument.
-const SEED: u64 = 4;
+/// The seed with which all are found within 600,000 steps; another one as the first argument.
+const SEED: u64 = 1;
 
 fn main() -> ExitCode {
     let seed = std::env::args().nth(1).and_then(|text| text.parse().ok());

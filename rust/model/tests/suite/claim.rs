@@ -249,6 +249,56 @@ fn last_write() {
     assert_eq!(given, broken(Sentence::LastWrite, 9));
 }
 
+/// Document 02 §1, of step 14: "It is neither read nor write in the line." It stands between all steps of
+/// a write and a read, joins nothing, and no reply to it breaks a sentence.
+#[test]
+fn a_found_interval_is_neither_read_nor_write() {
+    let steps = then(&[
+        find_interval(45),
+        write(0, 45, 7),
+        find_interval(45),
+        deliver(3),
+        find_interval(45),
+        respond(3),
+        find_interval(45),
+        read(0, 45),
+        find_interval(45),
+    ]);
+    let (history, state) = play(&steps, &NoFault);
+    let mut ledger = Ledger::new();
+    for event in &history {
+        ledger.feed(event.step, event.reply);
+    }
+    let placed: Vec<_> = ledger
+        .order
+        .iter()
+        .map(|p| (p.operation, p.is_write, p.step))
+        .collect();
+    assert_eq!(
+        placed,
+        [
+            (OperationId::Serial(3), true, 7),
+            (OperationId::Memory(11), false, 11),
+        ]
+    );
+    assert_eq!(ledger.store, state.store);
+    assert_eq!(check(&history, &state.store), Ok(()));
+    for at in [4, 6, 8, 10, 12] {
+        assert_eq!(history[at].reply, reply(9, 40, 59));
+        for other in [
+            reply(9, 41, 59),
+            reply(0, 0, 0),
+            reply(1, 3, 0),
+            reply(2, 9, 9),
+            reply(3, 9, 9),
+            reply(6, 3, 0),
+            refused(32),
+        ] {
+            assert_eq!(altered(&steps, &[(at, other)]), Ok(()), "{at} {other:?}");
+        }
+    }
+}
+
 /// The ledger beside the worked session: player 0's write carries guard 2 and is rejected after
 /// player 1's guard 5 is set on its entry; reads join the order with zeros.
 #[test]

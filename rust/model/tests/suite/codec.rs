@@ -9,7 +9,8 @@ use model::reply::Refusal;
 use crate::support::*;
 
 /// A step of each kind with its record. "Maps: 0F for kinds 1 and 3; 0D for 2; 07 for 4; 17 for 5; 21
-/// for 6 to 9; 05 for 10 to 12; 03 for 13." Little-endian, fields in the order of their bits.
+/// for 6 to 9; 05 for 10 to 12; 03 for 13." Document 02 §1: "kind 14, map 05". Little-endian, fields in
+/// the order of their bits.
 fn by_hand() -> [(Step, &'static str); KINDS as usize] {
     [
         (assign(1, 2, 0x103), "0F 01 01 02 0301"),
@@ -25,6 +26,7 @@ fn by_hand() -> [(Step, &'static str); KINDS as usize] {
         (merge(1), "05 0B 01"),
         (restart_tablet(2), "05 0C 02"),
         (restart_player(3), "03 0D 03"),
+        (find_interval(4), "05 0E 04"),
     ]
 }
 
@@ -114,6 +116,28 @@ fn every_map_and_kind() {
                 }
             }
         }
+    }
+}
+
+/// Document 02 §1: "From here on 26 means a kind not in force." The kinds 0 and 15 are none, whatever the
+/// map; kind 14 with another map than its own is 27.
+#[test]
+fn kinds_not_in_force() {
+    let cases = [
+        ("05 0F 04", Refusal::RecordKind),
+        ("05 00 04", Refusal::RecordKind),
+        ("01 0F", Refusal::RecordKind),
+        ("07 0F 01 04", Refusal::RecordKind),
+        ("01 0E", Refusal::RecordFields),
+        ("03 0E 04", Refusal::RecordFields),
+        ("07 0E 01 04", Refusal::RecordFields),
+        ("04 04", Refusal::RecordFields),
+        ("05 0E", Refusal::RecordCut),
+        ("05 0F", Refusal::RecordCut),
+        ("45 0E 04", Refusal::RecordBits),
+    ];
+    for (text, refusal) in cases {
+        assert_eq!(decode(&hex(text)), Err(refusal), "{text}");
     }
 }
 

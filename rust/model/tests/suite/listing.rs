@@ -69,6 +69,24 @@ fn short_sessions() {
     assert_eq!(listing(&cut), expected);
 }
 
+/// Document 02 §1: a step of kind 14 is listed with the first and last entry.
+#[test]
+fn a_found_interval() {
+    let session =
+        hex("52534C31 050E2D 0F0100283C00 0F0300283C00 210602000000 050E2D 050A32 050E3C");
+    let expected = "step code a b
+1 9 0 255
+2 1 1 0
+3 1 2 0
+4 0 0 0
+5 9 40 59
+6 0 0 0
+7 9 60 255
+end 0 7 34
+";
+    assert_eq!(listing(&session), expected);
+}
+
 /// The most records a session can hold, 3 bytes each after the mark, all find a place in the list.
 #[test]
 fn longest_session() {

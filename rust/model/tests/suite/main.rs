@@ -4,6 +4,7 @@ mod claim;
 mod codec;
 mod edges;
 mod faults;
+mod intervals;
 mod lent;
 mod listing;
 mod random;

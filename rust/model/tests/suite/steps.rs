@@ -1,4 +1,4 @@
-//! The thirteen steps, sentence by sentence, with the readings of document 01.
+//! The thirteen steps of document 01, sentence by sentence, with its readings.
 
 use model::numbers::{MAX_SERIAL, NOBODY};
 use model::rules;

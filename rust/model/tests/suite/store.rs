@@ -1,6 +1,6 @@
 //! The store used alone.
 
-use calls::{Range, Reply};
+use calls::{Interval, Range, Reply};
 use model::broken::break_rule;
 use model::prng::Prng;
 use model::store_calls::*;
@@ -59,6 +59,40 @@ fn tablets() {
     assert_eq!(merge(&mut words, 50), refused(35));
 }
 
+fn interval(guard: u32, first: u32, last: u32) -> Interval {
+    Interval {
+        code: 0,
+        guard,
+        first,
+        last,
+    }
+}
+
+/// Document 02 §1: "Finding an entry's guard must also give its stretch's first and last entry".
+#[test]
+fn intervals() {
+    let mut words = fresh_store();
+    assert_eq!(find_interval(&words, 7), interval(0, 0, 255));
+    assert_eq!(set_guard(&mut words, range(40, 60), 2), reply(0, 1, 0));
+    assert_eq!(find_interval(&words, 39), interval(0, 0, 39));
+    for entry in [40, 45, 59] {
+        assert_eq!(find_interval(&words, entry), interval(2, 40, 59));
+    }
+    assert_eq!(find_interval(&words, 60), interval(0, 60, 255));
+    // A boundary does not end it.
+    assert_eq!(split(&mut words, 50), reply(0, 0, 0));
+    assert_eq!(find_interval(&words, 49), interval(2, 40, 59));
+    assert_eq!(find_interval(&words, 50), interval(2, 40, 59));
+    // One entry at either end, and the last serial for a guard.
+    let highest = set_guard(&mut words, range(255, 256), 4_000_000);
+    assert_eq!(highest, reply(0, 1, 0));
+    assert_eq!(find_interval(&words, 255), interval(4_000_000, 255, 255));
+    assert_eq!(find_interval(&words, 254), interval(0, 60, 254));
+    assert_eq!(set_guard(&mut words, range(0, 1), 3), reply(0, 1, 0));
+    assert_eq!(find_interval(&words, 0), interval(3, 0, 0));
+    assert_eq!(find_interval(&words, 1), interval(0, 1, 39));
+}
+
 /// "there 4,000,000 stands for the last serial issued, and a request's or write's serial of 0 or
 /// above that is 28"
 #[test]
@@ -90,10 +124,15 @@ fn numbers() {
 type Call = fn(&mut [u32]) -> Reply;
 
 /// The calls with numbers that are 28 where they can be.
-const CALLS: [Call; 7] = [
+const CALLS: [Call; 8] = [
     |words| check(words),
     |words| set_guard(words, Range::new(5, 5), 0),
     |words| read(words, 0),
+    |words| {
+        let found = find_interval(words, 0);
+        assert_eq!(found, Interval::refused(found.code));
+        Reply::refused(found.code)
+    },
     |words| write(words, 0, 0, 0, 0),
     |words| split(words, 0),
     |words| merge(words, 0),

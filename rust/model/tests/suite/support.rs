@@ -113,6 +113,10 @@ pub fn restart_player(player: u8) -> Step {
     Step::RestartPlayer { player }
 }
 
+pub fn find_interval(entry: u8) -> Step {
+    Step::FindInterval { entry }
+}
+
 /// Player 0 owns 40 to 60 (serial 1) and holds guard 2 there; the next serial is 3.
 pub fn guarded() -> Vec<Step> {
     vec![assign(0, 40, 60), ask(0, 40, 60), deliver(2), respond(2)]
