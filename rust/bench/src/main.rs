@@ -60,12 +60,15 @@ fn median(mut figures: Vec<f64>) -> f64 {
 }
 
 /// Medians over repetitions that are taken in turn, so that what else the machine does hits all
-/// alike.
-fn medians(work: &Work) -> Vec<f64> {
+/// alike. None for a library that does not know a kind of the work.
+fn medians(work: &Work) -> Vec<Option<f64>> {
     let libraries = libraries();
     let mut figures: Vec<Vec<f64>> = vec![Vec::new(); libraries.len()];
     for _ in 0..REPETITIONS {
         for ((_, library), figures) in libraries.iter().zip(&mut figures) {
+            if !work.is_known(*library) {
+                continue;
+            }
             let whole = once(work, *library, false);
             let empty = match work.less_empty() {
                 true => once(work, *library, true),
@@ -74,17 +77,22 @@ fn medians(work: &Work) -> Vec<f64> {
             figures.push((whole - empty) / f64::from(work.each));
         }
     }
-    figures.into_iter().map(median).collect()
+    let known = figures.into_iter().map(|f| (!f.is_empty()).then_some(f));
+    known.map(|figures| figures.map(median)).collect()
 }
 
-/// One line: the figures, and the first one's ratio to each other.
-fn line(name: &str, figures: &[f64]) {
+/// One line: the figures, and the first one's ratio to each other; a dash where there is none.
+fn line(name: &str, figures: &[Option<f64>]) {
+    let show = |figure: Option<f64>, digits: usize| match figure {
+        Some(figure) => print!("{figure:>11.digits$}"),
+        None => print!("{:>11}", "-"),
+    };
     print!("{name:<40}");
-    for figure in figures {
-        print!("{figure:>11.1}");
+    for &figure in figures {
+        show(figure, 1);
     }
-    for other in &figures[1..] {
-        print!("{:>11.2}", figures[0] / other);
+    for &other in &figures[1..] {
+        show(figures[0].zip(other).map(|(own, other)| own / other), 2);
     }
     println!();
 }
@@ -176,7 +184,8 @@ fn stacks() {
     let row = |name: &str, works: &[Work]| {
         print!("{name:<40}");
         for (_, library) in libraries() {
-            let deepest = works.iter().map(|work| {
+            let known = works.iter().filter(|work| work.is_known(library));
+            let deepest = known.map(|work| {
                 let mut lent = work.lent();
                 stack::used(|| {
                     work.restore(&mut lent);
@@ -206,11 +215,16 @@ fn stacks() {
     println!();
 }
 
+/// The library and the work of these names; none where the library does not know a kind of the work.
+fn named(library: &str, work: &str) -> Option<(&'static dyn Library, Work)> {
+    let (_, library) = libraries().into_iter().find(|(name, _)| *name == library)?;
+    let work = works().into_iter().find(|other| other.name == work)?;
+    work.is_known(library).then_some((library, work))
+}
+
 /// Does one work once, for a tool that counts instructions.
 fn do_once(library: &str, work: &str, empty: bool) -> ExitCode {
-    let library = libraries().into_iter().find(|(name, _)| *name == library);
-    let work = works().into_iter().find(|other| other.name == work);
-    let (Some((_, library)), Some(work)) = (library, work) else {
+    let Some((library, work)) = named(library, work) else {
         return ExitCode::FAILURE;
     };
     black_box(work.run(library, &mut work.lent(), empty));
@@ -222,7 +236,7 @@ fn main() -> ExitCode {
     let words: Vec<&str> = words.iter().map(String::as_str).collect();
     match words[..] {
         [] => {}
-        // For tools/bench: the names, and one work done once.
+        // For tools/bench: the names, whether a library knows a work, and one work done once.
         ["works"] => {
             for work in works() {
                 println!(
@@ -239,6 +253,12 @@ fn main() -> ExitCode {
                 println!("{name}");
             }
             return ExitCode::SUCCESS;
+        }
+        ["knows", library, work] => {
+            return match named(library, work) {
+                Some(_) => ExitCode::SUCCESS,
+                None => ExitCode::FAILURE,
+            };
         }
         ["once", library, work] => return do_once(library, work, false),
         ["empty", library, work] => return do_once(library, work, true),

@@ -85,16 +85,33 @@ impl Work {
         (&self.store, &self.players)
     }
 
+    /// Its steps, by their fields.
+    fn steps(&self) -> Vec<Fields> {
+        match &self.act {
+            Act::Run { session, .. } => {
+                let mut steps = Vec::new();
+                let mut rest = &session[MARK.len()..];
+                while let Ok((step, length)) = codec::decode(rest) {
+                    steps.push(Fields::from(step));
+                    rest = &rest[length..];
+                }
+                steps
+            }
+            Act::Steps(steps) => steps.clone(),
+            Act::Check => Vec::new(),
+        }
+    }
+
+    /// Whether the library knows all its kinds; another one is not measured by it.
+    pub fn is_known(&self, library: &dyn Library) -> bool {
+        let kinds = library.kinds();
+        self.steps().iter().all(|step| step.kind <= kinds)
+    }
+
     /// The first steps of a run's session as calls of step.
     pub fn by_step(&self) -> Work {
-        let mut steps = Vec::new();
-        if let Act::Run { session, .. } = &self.act {
-            let mut rest = &session[MARK.len()..];
-            while let (true, Ok((step, length))) = (steps.len() < 64, codec::decode(rest)) {
-                steps.push(Fields::from(step));
-                rest = &rest[length..];
-            }
-        }
+        let mut steps = self.steps();
+        steps.truncate(64);
         Work {
             name: self.name.clone(),
             each: steps.len() as u32,
@@ -184,6 +201,7 @@ pub fn kinds() -> Vec<Work> {
         entry,
         value: 7,
     });
+    let finds = each_fourth(|entry| Step::FindInterval { entry });
     let restarted: Vec<Step> = vec![Step::RestartTablet { entry: 0 }];
     let memory = joined(&[&guarded, &reads[..1], &[deliver(66), respond(66)]]);
     let splits: Vec<Step> = (1..=255).map(|entry| Step::Split { entry }).collect();
@@ -248,10 +266,12 @@ pub fn kinds() -> Vec<Work> {
             &after_reads,
             &vec![Step::RestartPlayer { player: 1 }; 1_000],
         ),
+        Work::kind("14 how far a guard reaches", &guarded, &finds.repeat(16)),
     ]
 }
 
-/// Full sessions: as many records as a session can have, and as many bytes of all kinds.
+/// Full sessions: as many records as a session can have, and as many bytes of all kinds that the port
+/// knows.
 pub fn sessions() -> Vec<Work> {
     let mut rng = Prng::new(1);
     let mut longest = Vec::new();

@@ -2,10 +2,11 @@
 
 use calls::{Fields, Library, Reply, Request, Step, KINDS};
 use model::codec::{self, MARK};
+use model::numbers::MAX_SERIAL;
 use model::rules;
-use model::tables::{self, tables_of};
+use model::tables::{self, decode_store, tables_of};
 
-use crate::cells::{Call, Counts};
+use crate::cells::{Call, Counts, FIND_INTERVAL};
 use crate::oracle::RIGHT;
 
 /// What is called.
@@ -53,6 +54,7 @@ impl Act {
                 }
                 known(kind_at(rest))
             }
+            Act::Store(StoreCall::FindInterval { .. }) => known(FIND_INTERVAL),
             _ => true,
         }
     }
@@ -77,6 +79,9 @@ pub enum StoreCall {
         last: u32,
     },
     Read {
+        entry: u8,
+    },
+    FindInterval {
         entry: u8,
     },
     Write {
@@ -149,9 +154,23 @@ fn first_difference<T: PartialEq + std::fmt::Display>(
     ))
 }
 
-fn replies_differ(library: Reply, model: Reply) -> Option<String> {
-    let show = |reply: Reply| format!("{} {} {}", reply.code, reply.a, reply.b);
+fn numbers(reply: Reply) -> Vec<u32> {
+    vec![reply.code, reply.a, reply.b]
+}
+
+fn numbers_differ(library: &[u32], model: &[u32]) -> Option<String> {
+    let show = |numbers: &[u32]| {
+        let texts: Vec<String> = numbers.iter().map(u32::to_string).collect();
+        texts.join(" ")
+    };
     (library != model).then(|| format!("reply: library {}, model {}", show(library), show(model)))
+}
+
+fn replies_differ(library: Reply, model: Reply) -> Option<String> {
+    if library == model {
+        return None;
+    }
+    numbers_differ(&numbers(library), &numbers(model))
 }
 
 impl Case {
@@ -166,7 +185,8 @@ impl Case {
     }
 
     /// How library and model differ on this case, if they do. The model's replies are counted. A case
-    /// with a kind in force that the library does not know is passed over.
+    /// with a kind in force that the library does not know, or a call that came with it, is passed
+    /// over.
     pub fn differs(&self, library: &impl Library, counts: &mut Counts) -> Option<Difference> {
         if !self.act.is_known(library.kinds()) {
             return None;
@@ -200,6 +220,9 @@ impl Case {
                 Err(error) => Reply::from(error.refusal()),
             };
             counts.note(Call::Step(step.kind()), model.code);
+            if let (Step::FindInterval { entry }, Ok(state)) = (step, &state) {
+                counts.note_interval(Call::Step(step.kind()), &state.store, entry);
+            }
             counts.steps += 1;
             let said = library.step(&mut store, &mut players, step.into());
             let what = replies_differ(said, model)
@@ -286,11 +309,16 @@ impl Case {
             }
             Act::Store(call) => {
                 let (name, expected) = on_store(&model, &mut right.0, *call);
-                counts.note(name, expected.code);
-                if expected.code == 0 {
-                    counts.note_outcome(name, expected.a);
+                counts.note(name, expected[0]);
+                if expected[0] == 0 {
+                    counts.note_outcome(name, expected[1]);
                 }
-                replies_differ(on_store(library, &mut store, *call).1, expected)
+                if let StoreCall::FindInterval { entry } = *call {
+                    if let Ok(store) = decode_store(&right.0, MAX_SERIAL) {
+                        counts.note_interval(name, &store, entry);
+                    }
+                }
+                numbers_differ(&on_store(library, &mut store, *call).1, &expected)
             }
         };
         what.or_else(|| first_difference("store's table, word", &store, &right.0))
@@ -298,8 +326,14 @@ impl Case {
     }
 }
 
-fn on_store(library: &impl Library, store: &mut [u32], call: StoreCall) -> (Call, Reply) {
-    match call {
+/// The call, and the numbers that it gives.
+fn on_store(library: &impl Library, store: &mut [u32], call: StoreCall) -> (Call, Vec<u32>) {
+    let (name, reply) = match call {
+        StoreCall::FindInterval { entry } => {
+            let found = library.store_find_interval(store, entry);
+            let numbers = vec![found.code, found.guard, found.first, found.last];
+            return (Call::StoreFindInterval, numbers);
+        }
         StoreCall::Fresh => (Call::StoreFresh, library.store_fresh(store)),
         StoreCall::Check => (Call::StoreCheck, library.store_check(store)),
         StoreCall::CheckAt { last } => (Call::StoreCheckAt, library.store_check_at(store, last)),
@@ -320,7 +354,8 @@ fn on_store(library: &impl Library, store: &mut [u32], call: StoreCall) -> (Call
         StoreCall::Split { entry } => (Call::StoreSplit, library.store_split(store, entry)),
         StoreCall::Merge { entry } => (Call::StoreMerge, library.store_merge(store, entry)),
         StoreCall::Restart { entry } => (Call::StoreRestart, library.store_restart(store, entry)),
-    }
+    };
+    (name, numbers(reply))
 }
 
 #[cfg(test)]
@@ -354,6 +389,7 @@ mod tests {
             run(vec![]),
             run(codec::session(&[lose, lose])),
             run(behind_damage),
+            Act::Store(StoreCall::Restart { entry: 1 }),
         ] {
             assert!(act.is_known(9), "{act:?}");
         }
@@ -364,6 +400,7 @@ mod tests {
             Act::Decode(vec![0x01, 10]),
             run(codec::session(&[lose, split])),
             run(codec::session(&[split])[..6].to_vec()),
+            Act::Store(StoreCall::FindInterval { entry: 1 }),
         ] {
             assert!(!act.is_known(9), "{act:?}");
             assert!(act.is_known(KINDS), "{act:?}");

@@ -1,6 +1,6 @@
 //! The model of the rules as a library.
 
-use calls::{Decoded, Fields, Library, Range, Reply, Report, Request, Step};
+use calls::{Decoded, Fields, Interval, Library, Range, Reply, Report, Request, Step};
 use model::faults::{NoFault, Switches};
 use model::{codec, lent, run, store_calls, tables};
 
@@ -79,6 +79,10 @@ impl<S: Switches> Library for Model<S> {
 
     fn store_read(&self, store: &[u32], entry: u8) -> Reply {
         store_calls::read(store, entry)
+    }
+
+    fn store_find_interval(&self, store: &[u32], entry: u8) -> Interval {
+        store_calls::find_interval_with(store, entry, &self.0)
     }
 
     fn store_write(

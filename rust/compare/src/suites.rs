@@ -13,7 +13,7 @@ use model::table_rules::{TableError, TableRule};
 use model::tables::{self, tables_of, PLAYERS_WORDS, STORE_WORDS};
 
 use crate::case::{Act, Case, StoreCall};
-use crate::cells::Counts;
+use crate::cells::{Counts, FIND_INTERVAL};
 use crate::shrink::{print, shrink};
 
 /// How much is tried, and from which seed.
@@ -87,6 +87,44 @@ impl<L: Library> Group<'_, L> {
             0 => Act::Check,
             1 => run_of(codec::session(&[self.any_step(), self.any_step()]), 9, 9),
             _ => Act::Steps(vec![self.any_step()]),
+        }
+    }
+
+    /// Whether the library knows guard intervals: by step 14, and by the store's call.
+    fn finds_intervals(&self) -> bool {
+        self.kinds >= FIND_INTERVAL
+    }
+
+    /// A call of the store used alone.
+    fn any_store_call(&mut self) -> StoreCall {
+        let calls = 9 + u32::from(self.finds_intervals());
+        let rng = &mut self.rng;
+        let entry = if rng.chance(50) {
+            rng.below(3)
+        } else {
+            rng.below(256)
+        } as u8;
+        match rng.below(calls) {
+            0 => StoreCall::Check,
+            1 => StoreCall::Read { entry },
+            2 => StoreCall::Write {
+                entry,
+                value: rng.word(),
+                serial: serial(rng),
+                guard: serial(rng),
+            },
+            3 | 4 => StoreCall::SetGuard {
+                low: entry,
+                high: [u32::from(entry) + 1, 256, 257, rng.below(300)][rng.index(4)] as u16,
+                serial: serial(rng),
+            },
+            5 => StoreCall::Split { entry },
+            6 => StoreCall::Merge { entry },
+            7 => StoreCall::Restart { entry },
+            8 => StoreCall::CheckAt {
+                last: [0, 1, MAX_SERIAL, MAX_SERIAL + 1, rng.word()][rng.index(5)],
+            },
+            _ => StoreCall::FindInterval { entry },
         }
     }
 
@@ -335,8 +373,9 @@ fn full_runs(group: &mut Group<impl Library>) {
                 bytes.extend(record);
             }
         } else {
+            let kinds = 4 + u32::from(group.finds_intervals());
             while bytes.len() + 3 <= MAX_SESSION {
-                let step = match group.rng.below(4) {
+                let step = match group.rng.below(kinds) {
                     0 => Step::Split {
                         entry: group.rng.below(5) as u8,
                     },
@@ -346,8 +385,11 @@ fn full_runs(group: &mut Group<impl Library>) {
                     2 => Step::RestartTablet {
                         entry: group.rng.below(256) as u8,
                     },
-                    _ => Step::RestartPlayer {
+                    3 => Step::RestartPlayer {
                         player: group.rng.below(9) as u8,
+                    },
+                    _ => Step::FindInterval {
+                        entry: group.rng.below(256) as u8,
                     },
                 };
                 bytes.extend(codec::record(step));
@@ -456,7 +498,7 @@ fn broken_rules(group: &mut Group<impl Library>) {
                 Act::Check,
                 group.any_act(),
                 Act::Store(StoreCall::Check),
-                Act::Store(any_store_call(&mut group.rng)),
+                Act::Store(group.any_store_call()),
             ];
             if group.any_fails(&store, &players, acts) {
                 return;
@@ -491,7 +533,7 @@ fn changed_words(group: &mut Group<impl Library>) {
             group.any_act(),
             Act::Store(StoreCall::CheckAt { last }),
             Act::Store(StoreCall::Fresh),
-            Act::Store(any_store_call(&mut group.rng)),
+            Act::Store(group.any_store_call()),
         ];
         if group.any_fails(&store, &players, acts) {
             return;
@@ -521,7 +563,7 @@ fn lengths(group: &mut Group<impl Library>) {
                     Act::Steps(vec![step]),
                     run_of(codec::session(&[step]), 9, 9),
                     run_of(vec![0], 9, 9),
-                    Act::Store(any_store_call(&mut group.rng)),
+                    Act::Store(group.any_store_call()),
                     Act::Store(StoreCall::Fresh),
                 ];
                 if group.any_fails(&store, &players, acts) {
@@ -676,41 +718,12 @@ fn serial(rng: &mut Prng) -> u32 {
     }
 }
 
-fn any_store_call(rng: &mut Prng) -> StoreCall {
-    let entry = if rng.chance(50) {
-        rng.below(3)
-    } else {
-        rng.below(256)
-    } as u8;
-    match rng.below(9) {
-        0 => StoreCall::Check,
-        1 => StoreCall::Read { entry },
-        2 => StoreCall::Write {
-            entry,
-            value: rng.word(),
-            serial: serial(rng),
-            guard: serial(rng),
-        },
-        3 | 4 => StoreCall::SetGuard {
-            low: entry,
-            high: [u32::from(entry) + 1, 256, 257, rng.below(300)][rng.index(4)] as u16,
-            serial: serial(rng),
-        },
-        5 => StoreCall::Split { entry },
-        6 => StoreCall::Merge { entry },
-        7 => StoreCall::Restart { entry },
-        _ => StoreCall::CheckAt {
-            last: [0, 1, MAX_SERIAL, MAX_SERIAL + 1, rng.word()][rng.index(5)],
-        },
-    }
-}
-
 /// The store used alone: any call on any table. Writes carry the entry's guard in half of the cases.
 fn store_alone(group: &mut Group<impl Library>) {
     for _ in 0..group.plan.share(20_000) {
         let state = any_state(&mut group.rng);
         let (store, _) = tables_of(&state);
-        let mut call = any_store_call(&mut group.rng);
+        let mut call = group.any_store_call();
         if let StoreCall::Write { entry, guard, .. } = &mut call {
             if group.rng.chance(50) {
                 *guard = state.store.guards[usize::from(*entry)];

@@ -1,7 +1,8 @@
-//! The port agrees with the model, and the comparison sees every wrong library.
+//! The port agrees with the model, every cell is filled, and the comparison sees every wrong library.
 
-use calls::Library;
-use compare::cells::{Call, Counts};
+use calls::{Library, KINDS};
+use compare::cells::{Call, Counts, FIND_INTERVAL};
+use compare::oracle::RIGHT;
 use compare::suites::{run_all, Plan};
 use compare::wrong::try_all;
 use port::Port;
@@ -23,6 +24,23 @@ fn port_agrees() {
     assert!(counts.seen(Call::Step(4), 2) > 100);
 }
 
+/// All that can occur occurs, of the kinds that the port does not know too: the model beside itself.
+#[test]
+fn every_cell_is_filled() {
+    let plan = Plan {
+        steps: 100_000,
+        seed: 3,
+    };
+    let mut counts = Counts::default();
+    for outcome in run_all(&RIGHT, plan, &mut counts) {
+        assert_eq!(outcome.failure, None, "{}", outcome.name);
+    }
+    let (_, wrong, cells) = counts.table(KINDS);
+    assert!(wrong.is_empty(), "{wrong:?}");
+    assert_eq!(cells, 246);
+    assert!(counts.seen(Call::Step(FIND_INTERVAL), 9) > 1_000);
+}
+
 /// Every library that is wrong in one point is caught, and the case is printed.
 #[test]
 fn wrong_libraries_are_caught() {
@@ -38,5 +56,5 @@ fn wrong_libraries_are_caught() {
         assert!(text.contains("library"), "{}: {text}", library.name);
         tried += 1;
     });
-    assert_eq!(tried, 105);
+    assert_eq!(tried, 112);
 }

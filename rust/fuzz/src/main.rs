@@ -27,7 +27,7 @@ fn try_run(name: &str, library: &impl Library, case: &Case) {
 }
 
 /// Runs a session from fresh tables: with budget and list enough, then with as little of both as its
-/// last bytes say.
+/// last bytes say. The port, which knows the first kinds alone, runs it up to a record of another.
 #[no_mangle]
 pub extern "C" fn LLVMFuzzerTestOneInput(data: *const u8, size: usize) -> i32 {
     // SAFETY: libFuzzer lends `size` bytes.
@@ -37,17 +37,32 @@ pub extern "C" fn LLVMFuzzerTestOneInput(data: *const u8, size: usize) -> i32 {
         u32::from(last.copied().unwrap_or(0)) % 16,
         usize::from(before.copied().unwrap_or(0)) % 48,
     );
+    let known = known_part(session, port::Port.kinds());
     for (budget, list) in [(16_384, 3 * 5_460), few] {
-        let case = Case::fresh(Act::Run {
-            session: session.to_vec(),
-            budget,
-            list,
-        });
-        try_run("the port", &port::Port, &case);
+        let case = |session: &[u8]| {
+            Case::fresh(Act::Run {
+                session: session.to_vec(),
+                budget,
+                list,
+            })
+        };
+        try_run("the port", &port::Port, &case(known));
         #[cfg(feature = "library")]
-        try_run("the library", &proved::Proved, &case);
+        try_run("the library", &proved::Proved, &case(session));
     }
     0
+}
+
+/// A session up to its first record of a kind after this one.
+fn known_part(session: &[u8], kinds: u8) -> &[u8] {
+    let mut known = MARK.len().min(session.len());
+    while let Ok((step, length)) = codec::decode(&session[known..]) {
+        if step.kind() > kinds {
+            return &session[..known];
+        }
+        known += length;
+    }
+    session
 }
 
 extern "C" {
