@@ -24,9 +24,9 @@ extern "C" {
 
 /* The version of this header, and of the library that it is for. */
 #define FAMDRIZE_VERSION_MAJOR 0
-#define FAMDRIZE_VERSION_MINOR 2
+#define FAMDRIZE_VERSION_MINOR 3
 #define FAMDRIZE_VERSION_PATCH 0
-#define FAMDRIZE_VERSION "0.2.0"
+#define FAMDRIZE_VERSION "0.3.0"
 
 /* Words of the two tables; places of the lent list of requests; the last serial that can be issued. */
 #define FAMDRIZE_STORE_WORDS 1280
@@ -56,7 +56,8 @@ enum famdrize_kind {
     FAMDRIZE_SPLIT = 10,          /* entry */
     FAMDRIZE_MERGE = 11,          /* entry */
     FAMDRIZE_RESTART_TABLET = 12, /* entry */
-    FAMDRIZE_RESTART_PLAYER = 13  /* player */
+    FAMDRIZE_RESTART_PLAYER = 13, /* player */
+    FAMDRIZE_FIND_INTERVAL = 14   /* entry: how far its guard reaches */
 };
 
 /* The codes of replies, each with the reply's two numbers a and b, and of refusals, whose numbers are 0. The reasons for which a run stops
@@ -71,6 +72,7 @@ enum famdrize_code {
     FAMDRIZE_GRANTED = 6,        /* serial, 0 */
     FAMDRIZE_NOT_HELD = 7,       /* serial, 0 */
     FAMDRIZE_LAYOUT_CHANGED = 8, /* serial, 0 */
+    FAMDRIZE_INTERVAL = 9,       /* first entry, last entry */
 
     FAMDRIZE_TABLE_LENGTH = 21,
     FAMDRIZE_TABLE_RULES = 22,
@@ -133,6 +135,7 @@ FAMDRIZE_INLINE const char *famdrize_kind_words(uint32_t kind)
     case FAMDRIZE_MERGE: return "merge";
     case FAMDRIZE_RESTART_TABLET: return "tablet restart";
     case FAMDRIZE_RESTART_PLAYER: return "player restart";
+    case FAMDRIZE_FIND_INTERVAL: return "how far a guard reaches";
     default: return "no kind of step";
     }
 }
@@ -150,12 +153,13 @@ FAMDRIZE_INLINE const char *famdrize_code_words(uint32_t code)
     case FAMDRIZE_GRANTED: return "guard granted";
     case FAMDRIZE_NOT_HELD: return "not held";
     case FAMDRIZE_LAYOUT_CHANGED: return "layout changed";
+    case FAMDRIZE_INTERVAL: return "guard interval";
     case FAMDRIZE_TABLE_LENGTH: return "a table of the wrong length";
     case FAMDRIZE_TABLE_RULES: return "a table that breaks a rule";
     case FAMDRIZE_NO_MARK: return "the session's mark is wrong or missing";
     case FAMDRIZE_CUT_SHORT: return "a record cut short, or no byte";
     case FAMDRIZE_UNKNOWN_FIELD: return "bit 6 or 7 of a record's map stands";
-    case FAMDRIZE_UNKNOWN_KIND: return "no such kind of step";
+    case FAMDRIZE_UNKNOWN_KIND: return "a kind of step not in force";
     case FAMDRIZE_WRONG_FIELDS: return "the kind is missing, or other fields than the kind's";
     case FAMDRIZE_OUT_OF_RANGE:
         return "player above 7, an empty range or one past 256, split or merge at entry 0, or a serial out of range";
@@ -217,6 +221,14 @@ typedef struct {
     uint32_t place;
 } famdrize_report;
 
+/* Code 0 with the guard of an entry, and the first and the last entry of its guard interval; or the code of a refusal and zeros. */
+typedef struct {
+    uint32_t code;
+    uint32_t guard;
+    uint32_t first;
+    uint32_t last;
+} famdrize_interval;
+
 /* A request in flight, as one place of the lent list. A place that is not used has serial 0. A mark stands where its number is not 0. */
 typedef struct {
     uint32_t serial;
@@ -241,8 +253,8 @@ famdrize_reply famdrize_fresh(uint32_t *store, size_t store_words, uint32_t *pla
 /* Whether both tables keep the rules: 0 0 0, or 21, 22. */
 famdrize_reply famdrize_check(const uint32_t *store, size_t store_words, const uint32_t *players, size_t players_words);
 
-/* Takes the step of this kind with these fields. First 26 where the kind is not 1 to 13, 27 where a field that the kind lacks is not 0;
- * then the step's own: 21, 22, 28, 29, 30, 31, 32, 35, 33, 34, or one of the replies 0 to 8. */
+/* Takes the step of this kind with these fields. First 26 where the kind is not in force, 27 where a field that the kind lacks is not 0;
+ * then the step's own: 21, 22, 28, 29, 30, 31, 32, 35, 33, 34, or one of the replies 0 to 9. */
 famdrize_reply famdrize_step(uint32_t *store, size_t store_words, uint32_t *players, size_t players_words, uint8_t kind, uint8_t player,
                              uint8_t entry, uint16_t high, uint32_t value, uint32_t serial);
 
@@ -290,6 +302,10 @@ famdrize_reply famdrize_store_set_guard(uint32_t *store, size_t store_words, uin
 
 /* The entry's version and value: 0, version, value; or 21, 22. */
 famdrize_reply famdrize_store_read(const uint32_t *store, size_t store_words, uint8_t entry);
+
+/* The guard of the entry, and the first and the last entry of its guard interval: code 0; or 21, 22 and zeros. The interval is the longest
+ * row of neighbouring entries, this one among them, that have one guard, 0 or another; boundaries do not end it. */
+famdrize_interval famdrize_store_find_interval(const uint32_t *store, size_t store_words, uint8_t entry);
 
 /* A write that carries a guard: 0 1 0 where it commits, since that guard is the entry's and not 0; else 0 2 0; or 21, 22, 28. The same
  * write handed in twice may commit twice. */

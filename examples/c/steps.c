@@ -15,6 +15,14 @@ static void print(const char *name, famdrize_reply r)
     putchar('\n');
 }
 
+static void print_interval(const char *name, famdrize_interval i)
+{
+    printf("%s %u %u %u %u", name, (unsigned)i.code, (unsigned)i.guard, (unsigned)i.first, (unsigned)i.last);
+    if (i.code >= FAMDRIZE_TABLE_LENGTH)
+        printf(": %s", famdrize_code_words(i.code));
+    putchar('\n');
+}
+
 static famdrize_reply step(uint8_t kind, uint8_t player, uint8_t entry, uint16_t high, uint32_t value, uint32_t serial)
 {
     return famdrize_step(store, FAMDRIZE_STORE_WORDS, players, FAMDRIZE_PLAYERS_WORDS, kind, player, entry, high, value, serial);
@@ -28,6 +36,10 @@ static void steps(void)
     print("deliver", step(FAMDRIZE_DELIVER, 0, 0, 0, 0, 2));
     print("respond", step(FAMDRIZE_RESPOND, 0, 0, 0, 0, 2));
     print("respond again", step(FAMDRIZE_RESPOND, 0, 0, 0, 0, 2));
+    print("request guard", step(FAMDRIZE_REQUEST_GUARD, 0, 40, 60, 0, 0));
+    print("find interval", step(FAMDRIZE_FIND_INTERVAL, 0, 45, 0, 0, 0)); /* the guard is not set yet */
+    print("deliver", step(FAMDRIZE_DELIVER, 0, 0, 0, 0, 3));
+    print("find interval", step(FAMDRIZE_FIND_INTERVAL, 0, 45, 0, 0, 0));
     print("split with a value", step(FAMDRIZE_SPLIT, 0, 128, 0, 1, 0));
     print("kind 200", step(200, 0, 0, 0, 0, 0));
     print("check", famdrize_check(store, FAMDRIZE_STORE_WORDS, players, FAMDRIZE_PLAYERS_WORDS));
@@ -39,10 +51,14 @@ static void store_alone(void)
     print("fresh", famdrize_store_fresh(store, FAMDRIZE_STORE_WORDS));
     print("split", famdrize_store_split(store, FAMDRIZE_STORE_WORDS, 128));
     print("set guard", famdrize_store_set_guard(store, FAMDRIZE_STORE_WORDS, 40, 60, 2));
+    print_interval("find interval", famdrize_store_find_interval(store, FAMDRIZE_STORE_WORDS, 45));
+    print_interval("find interval", famdrize_store_find_interval(store, FAMDRIZE_STORE_WORDS, 127)); /* no guard, and a boundary inside */
+    print_interval("find interval, one word less", famdrize_store_find_interval(store, FAMDRIZE_STORE_WORDS - 1, 45));
     print("write", famdrize_store_write(store, FAMDRIZE_STORE_WORDS, 45, 7, 3, 2));
     print("write", famdrize_store_write(store, FAMDRIZE_STORE_WORDS, 45, 8, 4, 1));
     print("read", famdrize_store_read(store, FAMDRIZE_STORE_WORDS, 45));
     print("restart", famdrize_store_restart(store, FAMDRIZE_STORE_WORDS, 45));
+    print_interval("find interval", famdrize_store_find_interval(store, FAMDRIZE_STORE_WORDS, 45));
     print("write", famdrize_store_write(store, FAMDRIZE_STORE_WORDS, 45, 9, 5, 2));
     print("merge", famdrize_store_merge(store, FAMDRIZE_STORE_WORDS, 128));
     print("merge again", famdrize_store_merge(store, FAMDRIZE_STORE_WORDS, 128));

@@ -63,7 +63,7 @@ pub use requests::{pending, Request, REQUESTS};
 pub use session::{decode, encode, is_marked, put_mark, Record, SessionMut};
 pub use session::{MOST_RECORDS, RECORD_BYTES, SESSION_BYTES};
 pub use step::{Fields, Step};
-pub use store::{GuardOutcome, StoreMut, Versioned, WriteOutcome, STORE_WORDS};
+pub use store::{GuardOutcome, Interval, StoreMut, Versioned, WriteOutcome, STORE_WORDS};
 pub use tables::{TablesMut, PLAYERS_WORDS};
 
 /// The programs of the README, which are tested as they stand there.

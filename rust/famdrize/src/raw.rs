@@ -8,7 +8,7 @@
 #[repr(C)]
 #[derive(Clone, Copy, Debug, PartialEq, Eq)]
 pub struct Reply {
-    /// What became of the call: 0 to 8, or the number of a refusal.
+    /// What became of the call: 0 to 9, or the number of a refusal.
     pub code: u32,
     /// The first number.
     pub a: u32,
@@ -48,6 +48,20 @@ pub struct Report {
     pub records: u32,
     /// The byte place just after them.
     pub place: u32,
+}
+
+/// Code 0, the guard of an entry, and the first and the last entry of its guard interval; or the code of a refusal and zeros.
+#[repr(C)]
+#[derive(Clone, Copy, Debug, PartialEq, Eq)]
+pub struct Interval {
+    /// 0, or the number of a refusal.
+    pub code: u32,
+    /// The guard, 0 for none.
+    pub guard: u32,
+    /// The first entry.
+    pub first: u32,
+    /// The last entry.
+    pub last: u32,
 }
 
 /// A request in flight; a place that is not used has serial 0. A mark stands where its number is not 0.
@@ -158,6 +172,12 @@ extern "C" {
     ) -> Reply;
     /// The entry's version and value: 0, version, value; or 21, 22.
     pub fn famdrize_store_read(store: *const u32, store_words: usize, entry: u8) -> Reply;
+    /// The guard of the entry, and the first and the last entry of its guard interval: code 0; or 21, 22 and zeros.
+    pub fn famdrize_store_find_interval(
+        store: *const u32,
+        store_words: usize,
+        entry: u8,
+    ) -> Interval;
     /// A write that carries a guard: 0 1 0 where it commits, else 0 2 0; or 21, 22, 28.
     pub fn famdrize_store_write(
         store: *mut u32,

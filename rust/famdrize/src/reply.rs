@@ -70,6 +70,13 @@ pub enum Reply {
         /// The request's serial.
         serial: u32,
     },
+    /// 9: how far a guard of the store reaches.
+    Interval {
+        /// The first entry of the guard interval.
+        first: u8,
+        /// The last entry.
+        last: u8,
+    },
     /// A refusal's number: the step is refused, and nothing is altered.
     Refused(Refusal),
 }
@@ -88,6 +95,10 @@ impl Reply {
             [6, serial, 0] => Reply::Granted { serial },
             [7, serial, 0] => Reply::NotHeld { serial },
             [8, serial, 0] => Reply::LayoutChanged { serial },
+            [9, first, last] => Reply::Interval {
+                first: first.try_into().ok()?,
+                last: last.try_into().ok()?,
+            },
             [code, 0, 0] => Reply::Refused(Refusal::from_number(code)?),
             _ => return None,
         })
@@ -106,6 +117,7 @@ impl Reply {
             Reply::Granted { serial } => [6, serial, 0],
             Reply::NotHeld { serial } => [7, serial, 0],
             Reply::LayoutChanged { serial } => [8, serial, 0],
+            Reply::Interval { first, last } => [9, first as u32, last as u32],
             Reply::Refused(refusal) => [refusal.number(), 0, 0],
         }
     }
@@ -123,6 +135,7 @@ impl Reply {
             Reply::Granted { .. } => "guard granted",
             Reply::NotHeld { .. } => "not held",
             Reply::LayoutChanged { .. } => "layout changed",
+            Reply::Interval { .. } => "guard interval",
             Reply::Refused(refusal) => refusal.words(),
         }
     }
@@ -161,6 +174,10 @@ impl fmt::Display for Reply {
             | Reply::Granted { serial }
             | Reply::NotHeld { serial }
             | Reply::LayoutChanged { serial } => write!(f, "{words}: serial {serial}"),
+            Reply::Interval { first, last } if first == last => {
+                write!(f, "{words}: entry {first}")
+            }
+            Reply::Interval { first, last } => write!(f, "{words}: entries {first} to {last}"),
             Reply::Refused(refusal) => write!(f, "refused: {refusal}"),
         }
     }
@@ -201,7 +218,7 @@ refusals! {
     NoMark = 23, "the session's mark is wrong or missing";
     CutShort = 24, "a record cut short, or no byte";
     UnknownField = 25, "bit 6 or 7 of a record's map stands";
-    UnknownKind = 26, "no such kind of step";
+    UnknownKind = 26, "a kind of step not in force";
     WrongFields = 27, "the kind is missing, or other fields than the kind's";
     OutOfRange = 28, "player above 7, an empty range or one past 256, split or merge at entry 0, or a serial out of range";
     NotOwner = 29, "not owner of every entry";
@@ -302,6 +319,14 @@ mod tests {
             (Reply::Granted { serial: 7 }, [6, 7, 0]),
             (Reply::NotHeld { serial: 7 }, [7, 7, 0]),
             (Reply::LayoutChanged { serial: 7 }, [8, 7, 0]),
+            (Reply::Interval { first: 0, last: 0 }, [9, 0, 0]),
+            (
+                Reply::Interval {
+                    first: 60,
+                    last: 255,
+                },
+                [9, 60, 255],
+            ),
             (Reply::Refused(Refusal::NoSuchRequest), [32, 0, 0]),
         ];
         for (reply, numbers) in replies {
@@ -311,7 +336,10 @@ mod tests {
         for numbers in [
             [0, 1, 0],
             [1, 7, 1],
-            [9, 0, 0],
+            [9, 0, 256],
+            [9, 256, 256],
+            [9, u32::MAX, 0],
+            [10, 0, 0],
             [20, 0, 0],
             [32, 1, 0],
             [38, 0, 0],
@@ -333,7 +361,7 @@ mod tests {
             (23, "the session's mark is wrong or missing"),
             (24, "a record cut short, or no byte"),
             (25, "bit 6 or 7 of a record's map stands"),
-            (26, "no such kind of step"),
+            (26, "a kind of step not in force"),
             (27, "the kind is missing, or other fields than the kind's"),
             (28, "player above 7, an empty range or one past 256, split or merge at entry 0, or a serial out of range"),
             (29, "not owner of every entry"),
@@ -373,6 +401,12 @@ mod tests {
             ([6, 2, 0], "guard granted", "guard granted: serial 2"),
             ([7, 2, 0], "not held", "not held: serial 2"),
             ([8, 2, 0], "layout changed", "layout changed: serial 2"),
+            (
+                [9, 40, 59],
+                "guard interval",
+                "guard interval: entries 40 to 59",
+            ),
+            ([9, 45, 45], "guard interval", "guard interval: entry 45"),
             ([30, 0, 0], "no live guard", "refused: no live guard (30)"),
         ] {
             let reply = Reply::from_numbers(numbers).unwrap();
@@ -387,7 +421,7 @@ mod tests {
                 continue;
             };
             match reply.into_result() {
-                Ok(same) => assert_eq!((same, code < 9), (reply, true)),
+                Ok(same) => assert_eq!((same, code < 10), (reply, true)),
                 Err(refusal) => {
                     assert_eq!((Reply::Refused(refusal), code > 20), (reply, true));
                 }

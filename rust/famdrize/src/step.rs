@@ -83,6 +83,11 @@ pub enum Step {
         /// The player.
         player: Player,
     },
+    /// 14: how far the store's guard of the entry reaches. It alters nothing.
+    FindInterval {
+        /// The entry.
+        entry: u8,
+    },
 }
 
 impl fmt::Display for Step {
@@ -118,6 +123,9 @@ impl fmt::Display for Step {
                 write!(f, "the tablet that holds entry {entry} restarts")
             }
             Step::RestartPlayer { player } => write!(f, "{player} restarts"),
+            Step::FindInterval { entry } => {
+                write!(f, "it is asked how far the guard of entry {entry} reaches")
+            }
         }
     }
 }
@@ -229,6 +237,7 @@ impl From<Step> for Fields {
                 player: player.number(),
                 ..of(13)
             },
+            Step::FindInterval { entry } => Fields { entry, ..of(14) },
         }
     }
 }
@@ -236,7 +245,7 @@ impl From<Step> for Fields {
 impl TryFrom<Fields> for Step {
     type Error = Refusal;
 
-    /// The step of these fields: 26 where there is no such kind, 27 where a field that the kind lacks is not 0, 28 where the player is
+    /// The step of these fields: 26 where the kind is not in force, 27 where a field that the kind lacks is not 0, 28 where the player is
     /// above 7, or the range is empty or goes past 256.
     fn try_from(fields: Fields) -> Result<Step, Refusal> {
         // The map of the kind's record, and the step; none where its player or range is out of range.
@@ -277,6 +286,7 @@ impl TryFrom<Fields> for Step {
                 let player = f.its_player()?;
                 Some(Step::RestartPlayer { player })
             }),
+            14 => (0x05, |f| Some(Step::FindInterval { entry: f.entry })),
             _ => return Err(Refusal::UnknownKind),
         };
         if fields.kept(map) != fields {
@@ -292,7 +302,7 @@ mod tests {
     use std::string::ToString;
 
     /// A step of each kind, with its fields: kind, player, entry, high, value, serial.
-    fn samples() -> [(Step, [u32; 6]); 13] {
+    fn samples() -> [(Step, [u32; 6]); 14] {
         let player = Player::new(7).unwrap();
         let range = Range::new(40, 256).unwrap();
         [
@@ -316,6 +326,7 @@ mod tests {
             (Step::Merge { entry: 45 }, [11, 0, 45, 0, 0, 0]),
             (Step::RestartTablet { entry: 45 }, [12, 0, 45, 0, 0, 0]),
             (Step::RestartPlayer { player }, [13, 7, 0, 0, 0, 0]),
+            (Step::FindInterval { entry: 45 }, [14, 0, 45, 0, 0, 0]),
         ]
     }
 
@@ -403,6 +414,7 @@ mod tests {
             "two tablets are merged at entry 45",
             "the tablet that holds entry 45 restarts",
             "player 7 restarts",
+            "it is asked how far the guard of entry 45 reaches",
         ];
         assert_eq!(samples().map(|(step, _)| step.to_string()), texts);
         let range = Range::of_entry(45);

@@ -39,6 +39,33 @@ pub struct Versioned {
     pub value: u32,
 }
 
+/// An entry's guard, and how far it reaches: the longest row of neighbouring entries, that entry among them, that have one guard. Boundaries
+/// do not end it.
+///
+/// ```
+/// use famdrize::{GuardOutcome, Range, Serial, StoreMut, STORE_WORDS};
+///
+/// let mut words = [0; STORE_WORDS];
+/// let mut store = StoreMut::fresh(&mut words);
+/// let range = Range::try_from(40..60)?;
+/// assert_eq!(store.set_guard(range, Serial::try_from(2)?), GuardOutcome::Set);
+/// let found = store.find_interval(45);
+/// assert_eq!((found.guard, found.first, found.last), (2, 40, 59));
+/// let found = store.find_interval(60);
+/// assert_eq!((found.guard, found.first, found.last), (0, 60, 255));
+/// # Ok::<(), famdrize::Refusal>(())
+/// ```
+#[derive(Clone, Copy, Debug, PartialEq, Eq, Hash)]
+#[non_exhaustive]
+pub struct Interval {
+    /// The guard, 0 for none.
+    pub guard: u32,
+    /// The first entry.
+    pub first: u8,
+    /// The last entry.
+    pub last: u8,
+}
+
 /// What becomes of a guard that is to be set.
 #[derive(Clone, Copy, Debug, PartialEq, Eq, Hash)]
 #[non_exhaustive]
@@ -98,6 +125,12 @@ impl<'a> StoreMut<'a> {
     #[must_use]
     pub fn read(&self, entry: u8) -> Versioned {
         read(self.words, entry)
+    }
+
+    /// The entry's guard, and the first and the last entry of its guard interval.
+    #[must_use]
+    pub fn find_interval(&self, entry: u8) -> Interval {
+        find_interval(self.words, entry)
     }
 
     /// Sets a guard, numbered by its serial, over a range that lies in one tablet.
@@ -181,6 +214,29 @@ pub(crate) fn read(words: &[u32; STORE_WORDS], entry: u8) -> Versioned {
     Versioned { version, value }
 }
 
+/// The entry's guard and its interval, of a table that keeps its rules.
+pub(crate) fn find_interval(words: &[u32; STORE_WORDS], entry: u8) -> Interval {
+    // SAFETY: an array with its length, lent to be read.
+    let found = unsafe { raw::famdrize_store_find_interval(words.as_ptr(), words.len(), entry) };
+    let raw::Interval {
+        code,
+        guard,
+        first,
+        last,
+    } = found;
+    let [first, last] = accepted(raw::Reply {
+        code,
+        a: first,
+        b: last,
+    });
+    let entry = |number: u32| u8::try_from(number).expect("an interval's ends are entries");
+    Interval {
+        guard,
+        first: entry(first),
+        last: entry(last),
+    }
+}
+
 #[cfg(test)]
 mod tests {
     use super::*;
@@ -233,6 +289,43 @@ mod tests {
         store.restart(200);
         assert_eq!(store.write(45, 9, serial(6), 2), WriteOutcome::Rejected);
         assert_eq!(told(store.read(45)), (3, 7));
+    }
+
+    #[test]
+    fn a_guard_of_a_lent_table_reaches_to_both_ends_of_its_interval() {
+        let mut words = [0; STORE_WORDS];
+        let mut store = StoreMut::fresh(&mut words);
+        let found = |store: &StoreMut, entry: u8| {
+            let Interval { guard, first, last } = store.find_interval(entry);
+            (guard, first, last)
+        };
+        for entry in [0, 45, 255] {
+            assert_eq!(found(&store, entry), (0, 0, 255));
+        }
+        for (low, high, number) in [(40, 60, 2), (0, 1, 3), (250, 256, 4)] {
+            let guard = store.set_guard(range(low, high), serial(number));
+            assert_eq!(guard, GuardOutcome::Set);
+        }
+        // a boundary inside an interval, with a guard or without
+        assert_eq!(store.split(50), Ok(()));
+        assert_eq!(store.split(100), Ok(()));
+        let before = *store.words;
+        for (entries, interval) in [
+            ([0, 0, 0], (3, 0, 0)),
+            ([1, 20, 39], (0, 1, 39)),
+            ([40, 50, 59], (2, 40, 59)),
+            ([60, 99, 249], (0, 60, 249)),
+            ([250, 254, 255], (4, 250, 255)),
+        ] {
+            for entry in entries {
+                assert_eq!(found(&store, entry), interval, "{entry}");
+            }
+        }
+        assert_eq!(*store.words, before);
+        // the guard of the second tablet becomes 0, up to the third
+        store.restart(50);
+        assert_eq!(found(&store, 49), (2, 40, 49));
+        assert_eq!(found(&store, 50), (0, 50, 249));
     }
 
     #[test]

@@ -225,6 +225,31 @@ mod tests {
     }
 
     #[test]
+    fn a_guard_interval_is_found_and_nothing_is_altered() {
+        let (mut store, mut players) = lent();
+        let mut tables = TablesMut::fresh(&mut store, &mut players);
+        let find = |entry| Step::FindInterval { entry };
+        let found = |first, last| Reply::Interval { first, last };
+        assert_eq!(tables.step(find(45)), found(0, 255));
+        let (player, range) = (player(0), Range::new(40, 60).unwrap());
+        assert_eq!(tables.step(assign(0, range)), issued(1));
+        assert_eq!(tables.step(Step::RequestGuard { player, range }), issued(2));
+        assert_eq!(tables.step(find(45)), found(0, 255));
+        assert_eq!(tables.step(Step::Deliver { serial: 2 }), Reply::Done);
+        // a boundary does not end it
+        assert_eq!(tables.step(Step::Split { entry: 50 }), Reply::Done);
+        let (store_before, players_before) = (store, players);
+        let mut tables = TablesMut::check(&mut store, &mut players).unwrap();
+        assert_eq!(tables.step(find(0)), found(0, 39));
+        assert_eq!(tables.step(find(45)), found(40, 59));
+        assert_eq!(tables.step(find(55)), found(40, 59));
+        assert_eq!(tables.step(find(255)), found(60, 255));
+        assert_eq!((store, players), (store_before, players_before));
+        let mut tables = TablesMut::check(&mut store, &mut players).unwrap();
+        assert_eq!(tables.step(assign(0, range)), issued(3));
+    }
+
+    #[test]
     fn steps_change_lent_tables_and_refusals_do_not() {
         let (mut store, mut players) = lent();
         let mut tables = TablesMut::fresh(&mut store, &mut players);

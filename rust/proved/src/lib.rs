@@ -5,7 +5,7 @@
 
 #![warn(missing_docs)]
 
-use calls::{Decoded, Fields, Library, Reply, Report, Request};
+use calls::{Decoded, Fields, Interval, Library, Reply, Report, Request};
 use famdrize::raw;
 
 fn reply(said: raw::Reply) -> Reply {
@@ -149,6 +149,16 @@ impl Library for Proved {
 
     fn store_read(&self, s: &[u32], entry: u8) -> Reply {
         reply(unsafe { raw::famdrize_store_read(s.as_ptr(), s.len(), entry) })
+    }
+
+    fn store_find_interval(&self, s: &[u32], entry: u8) -> Interval {
+        let found = unsafe { raw::famdrize_store_find_interval(s.as_ptr(), s.len(), entry) };
+        Interval {
+            code: found.code,
+            guard: found.guard,
+            first: found.first,
+            last: found.last,
+        }
     }
 
     fn store_write(&self, s: &mut [u32], entry: u8, value: u32, serial: u32, guard: u32) -> Reply {

@@ -4,8 +4,9 @@ use alloc::boxed::Box;
 use alloc::vec::Vec;
 
 use super::{array, zeros};
-use crate::store::read;
-use crate::{GuardOutcome, Range, Refusal, Serial, StoreMut, Versioned, WriteOutcome, STORE_WORDS};
+use crate::store::{find_interval, read};
+use crate::STORE_WORDS;
+use crate::{GuardOutcome, Interval, Range, Refusal, Serial, StoreMut, Versioned, WriteOutcome};
 
 /// A store's table, which keeps its rules. The same write handed in twice may commit twice. [`StoreMut`] is the same over a lent table.
 #[derive(Clone, Debug, PartialEq, Eq)]
@@ -52,6 +53,12 @@ impl Store {
     #[must_use]
     pub fn read(&self, entry: u8) -> Versioned {
         read(&self.words, entry)
+    }
+
+    /// The entry's guard, and the first and the last entry of its guard interval.
+    #[must_use]
+    pub fn find_interval(&self, entry: u8) -> Interval {
+        find_interval(&self.words, entry)
     }
 
     /// Sets a guard, numbered by its serial, over a range that lies in one tablet.
@@ -148,6 +155,27 @@ mod tests {
     }
 
     #[test]
+    fn a_guard_reaches_to_both_ends_of_its_interval() {
+        let mut store = Store::fresh();
+        let interval = |guard, first, last| Interval { guard, first, last };
+        assert_eq!(store.find_interval(45), interval(0, 0, 255));
+        assert_eq!(
+            store.set_guard(Range::new(40, 60).unwrap(), serial(2)),
+            GuardOutcome::Set
+        );
+        assert_eq!(store.find_interval(39), interval(0, 0, 39));
+        assert_eq!(store.find_interval(40), interval(2, 40, 59));
+        assert_eq!(store.find_interval(59), interval(2, 40, 59));
+        assert_eq!(store.find_interval(60), interval(0, 60, 255));
+        // a boundary does not end it
+        assert_eq!(store.split(50), Ok(()));
+        assert_eq!(store.find_interval(45), interval(2, 40, 59));
+        store.restart(55);
+        assert_eq!(store.find_interval(45), interval(2, 40, 49));
+        assert_eq!(store.find_interval(55), interval(0, 50, 255));
+    }
+
+    #[test]
     fn tablets_are_split_and_merged() {
         let mut store = Store::fresh();
         assert_eq!(store.split(128), Ok(()));
@@ -193,6 +221,7 @@ mod tests {
             }
             assert_eq!(lent.words(), owned.words());
             assert_eq!(lent.read(entry), owned.read(entry));
+            assert_eq!(lent.find_interval(entry), owned.find_interval(entry));
             assert_eq!(owned.lend(), lent);
         }
         assert_ne!(owned, Store::fresh());
