@@ -2,16 +2,16 @@
 -- Assumes nothing.
 use mathlib.Core.Path.{_≡_, _∙_, refl, sym, ap}
 use mathlib.Core.Logic.{⊎-elim}
-use mathlib.Core.Bool.{Bool, true, false, _&&_}
+use mathlib.Core.Bool.{Bool, true, false, true≢false, _&&_}
 use mathlib.Core.List.{List, [], _∷_}
 use Prim.Native.Nat.{ℕ, zero, suc, _+_, _/_, _%_, _≤_, _<_}
 use native.Mathlib.Omega.{arith}
 use lib.Dec.{ltb, leb, eqb}
-use lib.ListN.{length, getD, take}
-use borrow.Author.Tests.{ltb-true, leb-true, eqb-true, eqb-false}
+use lib.ListN.{length, getD, take, List·getD-eq-default}
+use borrow.Author.Tests.{ltb-true, ltb-false, leb-true, eqb-true, eqb-false, ne-eqb}
 use Rattle.requests.proofs.Basics.{decide, both-left, both-right}
 use Rattle.players.specs.declared.Step.{Step}
-use Rattle.players.specs.Kinds.{stands, last-kind, map-of, kind-and-fields, kind, step-of, numbers-of, Byte-or-any, Fits}
+use Rattle.players.specs.Kinds.{stands, maps, last-kind, map-of, in-force, kind-and-fields, kind, step-of, numbers-of, Byte-or-any, Fits}
 use Rattle.players.proofs.StepCases.{bits}
 
 -- ---- from a list to each of its places
@@ -29,9 +29,46 @@ at-each f g i (suc n) e k a b =
     (λ t. let z = eqb-false k i t in at-each f g (suc i) n (let h : row f (suc i) n ≡ row g (suc i) n = cc in h) k (omega arith) (omega arith))
     (decide (eqb k i))
 
--- for kinds
-each-kind : {A : Type 0} (f g : ℕ → A) → row f 1 last-kind ≡ row g 1 last-kind → (k : ℕ) → 1 ≤ k → k ≤ last-kind → f k ≡ g k
-each-kind f g e k from to = at-each f g 1 last-kind e k from (omega arith)
+-- ---- which are in force: those from 1 to the last
+
+pub has-map : (k : ℕ) → (map-of k ≡ 0 → ⊥) → in-force k ≡ true
+has-map k h = rw (ne-eqb (map-of k) 0 h)
+
+pub no-map : (k : ℕ) → map-of k ≡ 0 → in-force k ≡ false
+no-map k e = rw e
+
+pub as-many-maps : length maps ≡ suc last-kind
+as-many-maps = refl
+
+all-in-force : row in-force 1 last-kind ≡ row (λ k. true) 1 last-kind
+unfolding map-of
+all-in-force = refl
+
+pub known-in-force : (k : ℕ) → 1 ≤ k → k ≤ last-kind → in-force k ≡ true
+known-in-force k from to = at-each in-force (λ k. true) 1 last-kind all-in-force k from (omega arith)
+
+-- above the last there is no map
+pub none-above : (k : ℕ) → last-kind < k → map-of k ≡ 0
+unfolding map-of
+none-above k h = List·getD-eq-default maps 0 h
+
+not-zero : (k : ℕ) → in-force k ≡ true → 1 ≤ k
+unfolding map-of
+not-zero zero h = absurd (true≢false (sym h))
+not-zero (suc k) h = omega arith
+
+not-above : (k : ℕ) → in-force k ≡ true → k ≤ last-kind
+not-above k h =
+    ⊎-elim (λ t. absurd (true≢false (sym h ∙ no-map k (none-above k (ltb-true last-kind k t)))))
+    (λ t. ltb-false last-kind k t)
+    (decide (ltb last-kind k))
+
+pub in-force-range : (k : ℕ) → in-force k ≡ true → (1 ≤ k) × (k ≤ last-kind)
+in-force-range k h = (not-zero k h, not-above k h)
+
+-- two functions whose rows are the same for them are the same for each
+each-kind : {A : Type 0} (f g : ℕ → A) → row f 1 last-kind ≡ row g 1 last-kind → (k : ℕ) → in-force k ≡ true → f k ≡ g k
+each-kind f g e k h = at-each f g 1 last-kind e k (not-zero k h) (omega (arith, not-above k h))
 
 -- ---- maps
 
@@ -48,10 +85,10 @@ all-good : row good 1 last-kind ≡ row (λ k. true) 1 last-kind
 unfolding map-of
 all-good = refl
 
-pub kind-map : (k : ℕ) → 1 ≤ k → k ≤ last-kind → Map (map-of k)
-kind-map k from to =
+pub kind-map : (k : ℕ) → in-force k ≡ true → Map (map-of k)
+kind-map k force =
     let m = map-of k in
-    let t : good k ≡ true = each-kind good (λ k. true) all-good k from to in
+    let t : good k ≡ true = each-kind good (λ k. true) all-good k force in
     let u = both-right (ltb m 64) (stands m && leb (bits 6 m) 4) t in
     record {
       low = ltb-true m 64 (both-left (ltb m 64) (stands m && leb (bits 6 m) 4) t);
@@ -79,15 +116,15 @@ first-four : (k : ℕ) (vs : List ℕ) → step-of k vs ≡ step-of k (k ∷ get
 unfolding step-of
 first-four k vs = refl
 
-module _ (k : ℕ) (from : 1 ≤ k) (to : k ≤ last-kind) (vs : List ℕ) (n : length vs ≡ bits 6 (map-of k)) (h : getD vs 0 0 ≡ k) where
+module _ (k : ℕ) (force : in-force k ≡ true) (vs : List ℕ) (n : length vs ≡ bits 6 (map-of k)) (h : getD vs 0 0 ≡ k) where
   pub fields-made : kind-and-fields (step-of k vs) ≡ vs
   fields-made =
-      let few = kind-map k from to .few in
+      let few = kind-map k force .few in
       let a = getD vs 1 0 in
       let b = getD vs 2 0 in
       let c = getD vs 3 0 in
       ap kind-and-fields (first-four k vs)
-      ∙ each-kind (λ i. kind-and-fields (step-of i (i ∷ a ∷ b ∷ c ∷ []))) (λ i. take (bits 6 (map-of i)) (i ∷ a ∷ b ∷ c ∷ [])) (all-fields a b c) k from to
+      ∙ each-kind (λ i. kind-and-fields (step-of i (i ∷ a ∷ b ∷ c ∷ []))) (λ i. take (bits 6 (map-of i)) (i ∷ a ∷ b ∷ c ∷ [])) (all-fields a b c) k force
       ∙ ap (λ i. take i (k ∷ a ∷ b ∷ c ∷ [])) (sym n)
       ∙ ap (λ i. take (length vs) (i ∷ a ∷ b ∷ c ∷ [])) (sym h)
       ∙ four vs (omega arith)
