@@ -9,7 +9,7 @@ use native.Mathlib.Nat.{pow-suc}
 use lib.ListN.{length, take, drop, getD}
 use borrow.Author.Tests.{eq-eqb}
 use Rattle.players.specs.declared.Step.{Step}
-use Rattle.players.specs.Kinds.{stands, last-kind, map-of, kind-and-fields, kind, spread, numbers-of}
+use Rattle.players.specs.Kinds.{stands, map-of, kind-and-fields, kind, spread, numbers-of}
 use Rattle.players.proofs.StepCases.{bits, known}
 use Rattle.players.proofs.KindLaws.{kind-map}
 use Rattle.session.specs.Layout.{widths, bytes, field-bytes}
@@ -105,11 +105,7 @@ pub first-number : (x : Step) → getD (numbers-of x) 0 0 ≡ kind x
 unfolding spread
 first-number x =
     let m = map-of (kind x) in
-    rw (eq-eqb (m % 2) 1 (kind-map (kind x) (known x .from) (known x .to) .odd))
-
--- a step's numbers begin with a kind
-pub first-known : (x : Step) (vs : List ℕ) → vs ≡ numbers-of x → getD vs 0 0 ≤ last-kind
-first-known x vs e = rw (e, first-number x) (known x .to)
+    rw (eq-eqb (m % 2) 1 (kind-map (kind x) (known x .force) .odd))
 
 -- six numbers put by the map of their kind are their record
 pub by-map : (vs : List ℕ) {m r : ℕ} {l l′ : List ℕ} → m ≡ map-of (getD vs 0 0) → Puts (m ∷ field-bytes widths m (standing m vs)) 14 0 l l′ r → Puts (record-of vs) 14 0 l l′ r

@@ -2,7 +2,6 @@
 -- refused, none of which refuses a run.
 -- Assumes nothing.
 use mathlib.Core.Path.{_≡_, refl}
-use mathlib.Core.Bool.{_||_}
 use mathlib.Core.List.{List}
 use Prim.Native.Nat.{ℕ, _≤_}
 use native.Mathlib.Omega.{arith}
@@ -12,7 +11,7 @@ use Rattle.players.specs.Replies.{refusal}
 use Rattle.requests.proofs.Basics.{cond-elim}
 use Rattle.session.specs.declared.Decoded.{Decoded}
 use Rattle.session.specs.declared.Decoded.the-variants.{Record, Refused}
-use Rattle.players.specs.Kinds.{stands, last-kind, map-of}
+use Rattle.players.specs.Kinds.{stands, map-of, in-force}
 use Rattle.session.specs.Layout.{record-length}
 use Rattle.session.specs.Records.{cut-short, wrong-fields, map-at, kind-at, tested, decode}
 use Rattle.session.specs.Written.{Wrote, wrote, written}
@@ -40,5 +39,5 @@ decode-numbered s =
     cond-elim P (leb 64 (map-at s)) _ _ (λ _. (omega arith, omega arith)) (λ _.
     cond-elim P (ltb (length s) (record-length (map-at s))) _ _ (λ _. (omega arith, omega arith)) (λ _.
     cond-elim P (stands (map-at s)) _ _ (λ _.
-    cond-elim P (ltb (kind-at s) 1 || ltb last-kind (kind-at s)) _ _ (λ _. (omega arith, omega arith)) (λ _.
-    cond-elim P (eqb (map-at s) (map-of (kind-at s))) _ _ (λ _. tt) (λ _. (omega arith, omega arith)))) (λ _. (omega arith, omega arith)))))
+    cond-elim P (in-force (kind-at s)) _ _ (λ _.
+    cond-elim P (eqb (map-at s) (map-of (kind-at s))) _ _ (λ _. tt) (λ _. (omega arith, omega arith))) (λ _. (omega arith, omega arith))) (λ _. (omega arith, omega arith)))))

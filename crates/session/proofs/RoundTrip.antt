@@ -1,17 +1,17 @@
 -- What was written reads back as the same step, and the bytes that are accepted for a step are the only ones for it.
 -- Assumes nothing.
 use mathlib.Core.Path.{_≡_, _∙_, refl, sym, ap, subst}
-use mathlib.Core.Logic.{_⊎_, inl, inr}
+use mathlib.Core.Bool.{true, false}
 use mathlib.Core.List.{List, [], _∷_, _++_, append-nil}
-use Prim.Native.Nat.{ℕ, suc, _%_, _≤_, _<_}
+use Prim.Native.Nat.{ℕ, suc, _%_, _≤_}
 use native.Mathlib.Omega.{arith}
 use lib.Dec.{lit≤}
 use lib.ListN.{length, getD, take, drop, length-append}
 use lib.Seq.{take-add, length-take-le}
-use borrow.Author.Tests.{eq-eqb, lt-ltb, le-ltb}
+use borrow.Author.Tests.{eq-eqb}
 use Rattle.requests.specs.Answers.{Numbers, gives, refused}
 use Rattle.players.specs.declared.Step.{Step}
-use Rattle.players.specs.Kinds.{last-kind, map-of, kind-and-fields, kind, step-of, Fits}
+use Rattle.players.specs.Kinds.{map-of, in-force, kind-and-fields, kind, step-of, Fits}
 use Rattle.players.proofs.StepCases.{bits, known}
 use Rattle.players.proofs.KindLaws.{kind-map}
 use Rattle.session.specs.Layout.{widths, record-length, fields-length, fields, field-bytes}
@@ -31,7 +31,7 @@ unfolding record-length
 length-encode x = let e = length-fields widths (map-of (kind x)) (kind-and-fields x) in omega arith
 
 -- a kind, as many numbers as its map has bits, that kind first, and their record
-module _ (k : ℕ) (from : 1 ≤ k) (to : k ≤ last-kind) (vs : List ℕ) (n : length vs ≡ bits 6 (map-of k)) (h : getD vs 0 0 ≡ k) (rest : List ℕ) where
+module _ (k : ℕ) (force : in-force k ≡ true) (vs : List ℕ) (n : length vs ≡ bits 6 (map-of k)) (h : getD vs 0 0 ≡ k) (rest : List ℕ) where
   abbrev m : ℕ
   m = map-of k
 
@@ -45,15 +45,15 @@ module _ (k : ℕ) (from : 1 ≤ k) (to : k ≤ last-kind) (vs : List ℕ) (n : 
   unfolding fields
   kind-read =
       let e = ap (λ (l : List ℕ). getD l 0 0) fields-read ∙ h in
-      rw (eq-eqb (m % 2) 1 (kind-map k from to .odd)) at e
+      rw (eq-eqb (m % 2) 1 (kind-map k force .odd)) at e
 
   written-accepted : Accepted (bytes ++ rest)
   unfolding record-length
   written-accepted =
-      let good = kind-map k from to in
+      let good = kind-map k force in
       let a = length-append bytes rest in
       let l = length-fields widths m vs in
-      accepted (bytes ++ rest) (λ e. omega arith) (good .low) (omega arith) (good .odd) (rw kind-read from) (rw kind-read to) (rw kind-read)
+      accepted (bytes ++ rest) (λ e. omega arith) (good .low) (omega arith) (good .odd) (rw kind-read force) (rw kind-read)
 
   -- it is read as the step that they make
   pub numbers-read : decode (bytes ++ rest) ≡ Record (step-of k vs) (record-length m)
@@ -63,28 +63,27 @@ module _ (k : ℕ) (from : 1 ≤ k) (to : k ≤ last-kind) (vs : List ℕ) (n : 
 pub read-back : (x : Step) (rest : List ℕ) → decode (encode x ++ rest) ≡ Record x (length (encode x))
 read-back x rest =
     let k = known x in
-    numbers-read (kind x) (k .from) (k .to) (kind-and-fields x) (k .fields) refl rest ∙ rw (k .same, length-encode x)
+    numbers-read (kind x) (k .force) (kind-and-fields x) (k .fields) refl rest ∙ rw (k .same, length-encode x)
 
 -- six numbers: their record is read as the step of the kind with those of its fields
 module _ (k : ℕ) (us : List ℕ) (n : length us ≡ 5) where
-  pub no-kind : (k < 1) ⊎ (last-kind < k) → Refused unknown-kind ≡ of-numbers (k ∷ us)
-  no-kind (inl h) = rw (lt-ltb k 1 h)
-  no-kind (inr h) = rw (le-ltb k 1 (omega arith), lt-ltb last-kind k h)
+  pub no-kind : in-force k ≡ false → Refused unknown-kind ≡ of-numbers (k ∷ us)
+  no-kind h = rw h
 
-  pub record-read : 1 ≤ k → k ≤ last-kind → decode (record-of (k ∷ us)) ≡ of-numbers (k ∷ us)
-  record-read from to =
+  pub record-read : in-force k ≡ true → decode (record-of (k ∷ us)) ≡ of-numbers (k ∷ us)
+  record-read force =
       let m = map-of k in
       let vs = standing m (k ∷ us) in
       let count : length vs ≡ bits 6 m = count-standing m (k ∷ us) ∙ ap (λ (i : ℕ). bits (suc i) m) n in
-      rw (le-ltb k 1 from, le-ltb last-kind k to)
-      (ap decode (sym (append-nil (record-of (k ∷ us)))) ∙ numbers-read k from to vs count (first-standing m k us (kind-map k from to .odd)) [])
+      rw force
+      (ap decode (sym (append-nil (record-of (k ∷ us)))) ∙ numbers-read k force vs count (first-standing m k us (kind-map k force .odd)) [])
 
 -- ---- what is accepted
 
 -- a record that passes all tests
 module _ (s : List ℕ) (a : Accepted s) where
   read : Reads s (kind-at s)
-  read = reads s (kind-at s) (a .from) (a .to) refl
+  read = reads s (kind-at s) (a .force) refl
 
   pub record-decodes : (k : ℕ) → k ≡ kind-at s → (x : Step) → x ≡ step-of k (fields widths (map-of k) s 1) → (n : ℕ) → n ≡ record-length (map-at s) → Decodes s (Record x n)
   record-decodes k ek x ex n en =
@@ -149,4 +148,4 @@ module _ (s : List ℕ) (x : Step) (n : ℕ) (b : Bytes s) (h : decode s ≡ Rec
       let f = found s x n h in
       let a = f .passed in
       let k : step-of (kind-at s) (fields widths (map-of (kind-at s)) s 1) ≡ x = rw (← a .map) (f .step) in
-      subst Fits k (fits-read s (kind-at s) (a .from) (a .to) refl b)
+      subst Fits k (fits-read s (kind-at s) (a .force) refl b)

@@ -10,7 +10,7 @@ use lib.ListN.{getD, drop}
 use borrow.Author.Tests.{eq-eqb}
 use Rattle.store.specs.declared.Range.{Range}
 use Rattle.players.specs.declared.Step.{Step}
-use Rattle.players.specs.Kinds.{stands, last-kind, map-of, kind-and-fields, kind, step-of, spread, Fits}
+use Rattle.players.specs.Kinds.{stands, map-of, in-force, kind-and-fields, kind, step-of, spread, Fits}
 use Rattle.players.proofs.KindLaws.{kind-map, fields-made, kind-made, fits-by}
 use Rattle.session.specs.Layout.{widths, fields}
 use Rattle.session.specs.Records.{kind-at, Bytes}
@@ -80,18 +80,18 @@ pub record Reads (s : List ℕ) (k : ℕ) : Type 0 where
   pub kinds : kind (step-of k (fields widths (map-of k) s 1)) ≡ k
   pub whole : kind-and-fields (step-of k (fields widths (map-of k) s 1)) ≡ fields widths (map-of k) s 1
 
-module _ (s : List ℕ) (k : ℕ) (from : 1 ≤ k) (to : k ≤ last-kind) (is : kind-at s ≡ k) where
+module _ (s : List ℕ) (k : ℕ) (force : in-force k ≡ true) (is : kind-at s ≡ k) where
   abbrev vs : List ℕ
   vs = fields widths (map-of k) s 1
 
   first : getD vs 0 0 ≡ k
   unfolding fields
-  first = rw (eq-eqb (map-of k % 2) 1 (kind-map k from to .odd)) is
+  first = rw (eq-eqb (map-of k % 2) 1 (kind-map k force .odd)) is
 
   pub reads : Reads s k
   reads =
       let n = count-fields widths (map-of k) s 1 in
-      record { kinds = kind-made k from to vs n first; whole = fields-made k from to vs n first }
+      record { kinds = kind-made k force vs n first; whole = fields-made k force vs n first }
 
   -- its entry is a byte
   pub fits-read : Bytes s → Fits (step-of k vs)

@@ -1,14 +1,14 @@
 -- The tests of a record, one by one: what each refuses, and what is known of a record that passes them all.
 -- Assumes nothing.
 use mathlib.Core.Path.{_≡_, refl, sym}
-use mathlib.Core.Bool.{Bool, true, false, cond, _||_}
+use mathlib.Core.Bool.{Bool, true, false, cond}
 use mathlib.Core.List.{List}
 use Prim.Native.Nat.{ℕ, _%_, _≤_, _<_}
 use lib.ListN.{length}
 use lib.Dec.{ltb, leb, eqb}
 use borrow.Author.Tests.{ltb-true, ltb-false, leb-true, leb-false, eqb-true, eqb-false, lt-ltb, le-ltb, le-leb, lt-leb, eq-eqb, ne-eqb}
 use Rattle.requests.specs.Answers.{Numbers, refused}
-use Rattle.players.specs.Kinds.{stands, last-kind, map-of}
+use Rattle.players.specs.Kinds.{stands, map-of, in-force}
 use Rattle.session.specs.Layout.{record-length}
 use Rattle.session.specs.declared.Decoded.{Decoded}
 use Rattle.session.specs.declared.Decoded.the-variants.{Refused}
@@ -42,39 +42,32 @@ module _ (s : List ℕ) where
         module _ (odd : map-at s % 2 ≡ 1) where
           -- past the tests of the map
           on-kind : {A : Type 0} (f : ℕ → A) (x : A)
-              → tested s f x ≡ cond (ltb (kind-at s) 1 || ltb last-kind (kind-at s)) (f unknown-kind) (cond (eqb (map-at s) (map-of (kind-at s))) x (f wrong-fields))
+              → tested s f x ≡ cond (in-force (kind-at s)) (cond (eqb (map-at s) (map-of (kind-at s))) x (f wrong-fields)) (f unknown-kind)
           unfolding tested
           on-kind f x =
               simp (ne-eqb (length s) 0 some, lt-leb 64 (map-at s) low, le-ltb (length s) (record-length (map-at s)) long, eq-eqb (map-at s % 2) 1 odd)
 
-          pub kind-zero : kind-at s < 1 → Refuses s unknown-kind
-          kind-zero h A f x = rw (on-kind f x, lt-ltb (kind-at s) 1 h)
+          pub not-in-force : in-force (kind-at s) ≡ false → Refuses s unknown-kind
+          not-in-force h A f x = rw (on-kind f x, h)
 
-          module _ (from : 1 ≤ kind-at s) where
-            pub kind-above : last-kind < kind-at s → Refuses s unknown-kind
-            kind-above h A f x = rw (on-kind f x, le-ltb (kind-at s) 1 from, lt-ltb last-kind (kind-at s) h)
+          module _ (force : in-force (kind-at s) ≡ true) where
+            pub other-map : (map-at s ≡ map-of (kind-at s) → ⊥) → Refuses s wrong-fields
+            other-map h A f x = rw (on-kind f x, force, ne-eqb (map-at s) (map-of (kind-at s)) h)
 
-            module _ (to : kind-at s ≤ last-kind) where
-              pub other-map : (map-at s ≡ map-of (kind-at s) → ⊥) → Refuses s wrong-fields
-              other-map h A f x =
-                  rw (on-kind f x, le-ltb (kind-at s) 1 from, le-ltb last-kind (kind-at s) to, ne-eqb (map-at s) (map-of (kind-at s)) h)
-
-              pub passes : map-at s ≡ map-of (kind-at s) → (A : Type 0) (f : ℕ → A) (x : A) → tested s f x ≡ x
-              passes h A f x = rw (on-kind f x, le-ltb (kind-at s) 1 from, le-ltb last-kind (kind-at s) to, eq-eqb (map-at s) (map-of (kind-at s)) h)
+            pub passes : map-at s ≡ map-of (kind-at s) → (A : Type 0) (f : ℕ → A) (x : A) → tested s f x ≡ x
+            passes h A f x = rw (on-kind f x, force, eq-eqb (map-at s) (map-of (kind-at s)) h)
 
 -- what is known of bytes that pass
 pub record Accepted (s : List ℕ) : Type 1 where
   pub some : length s ≡ 0 → ⊥
   pub long : record-length (map-at s) ≤ length s
-  pub from : 1 ≤ kind-at s
-  pub to : kind-at s ≤ last-kind
+  pub force : in-force (kind-at s) ≡ true
   pub map : map-at s ≡ map-of (kind-at s)
   pub takes : (A : Type 0) (f : ℕ → A) (x : A) → tested s f x ≡ x
 
-pub accepted : (s : List ℕ) → (length s ≡ 0 → ⊥) → map-at s < 64 → record-length (map-at s) ≤ length s → map-at s % 2 ≡ 1 → 1 ≤ kind-at s → kind-at s ≤ last-kind
+pub accepted : (s : List ℕ) → (length s ≡ 0 → ⊥) → map-at s < 64 → record-length (map-at s) ≤ length s → map-at s % 2 ≡ 1 → in-force (kind-at s) ≡ true
     → map-at s ≡ map-of (kind-at s) → Accepted s
-accepted s some low long odd from to e =
-    record { some = some; long = long; from = from; to = to; map = e; takes = passes s some low long odd from to e }
+accepted s some low long odd force e = record { some = some; long = long; force = force; map = e; takes = passes s some low long odd force e }
 
 -- either of the two
 pub data Outcome (s : List ℕ) : Type 1 where
@@ -84,20 +77,17 @@ pub data Outcome (s : List ℕ) : Type 1 where
 pub outcome : (s : List ℕ) → Outcome s
 outcome s = by-length (eqb (length s) 0) refl
   where
-    by-map : (length s ≡ 0 → ⊥) → map-at s < 64 → record-length (map-at s) ≤ length s → map-at s % 2 ≡ 1 → 1 ≤ kind-at s → kind-at s ≤ last-kind
+    by-map : (length s ≡ 0 → ⊥) → map-at s < 64 → record-length (map-at s) ≤ length s → map-at s % 2 ≡ 1 → in-force (kind-at s) ≡ true
         → (b : Bool) → eqb (map-at s) (map-of (kind-at s)) ≡ b → Outcome s
-    by-map some low long odd from to true e = accepts (accepted s some low long odd from to (eqb-true _ _ e))
-    by-map some low long odd from to false e = refuses wrong-fields (other-map s some low long odd from to (eqb-false _ _ e))
+    by-map some low long odd force true e = accepts (accepted s some low long odd force (eqb-true _ _ e))
+    by-map some low long odd force false e = refuses wrong-fields (other-map s some low long odd force (eqb-false _ _ e))
 
-    by-kind : (length s ≡ 0 → ⊥) → map-at s < 64 → record-length (map-at s) ≤ length s → map-at s % 2 ≡ 1
-        → (a b : Bool) → ltb (kind-at s) 1 ≡ a → ltb last-kind (kind-at s) ≡ b → Outcome s
-    by-kind some low long odd true b d e = refuses unknown-kind (kind-zero s some low long odd (ltb-true _ _ d))
-    by-kind some low long odd false true d e = refuses unknown-kind (kind-above s some low long odd (ltb-false _ _ d) (ltb-true _ _ e))
-    by-kind some low long odd false false d e =
-        by-map some low long odd (ltb-false _ _ d) (ltb-false _ _ e) (eqb (map-at s) (map-of (kind-at s))) refl
+    by-kind : (length s ≡ 0 → ⊥) → map-at s < 64 → record-length (map-at s) ≤ length s → map-at s % 2 ≡ 1 → (b : Bool) → in-force (kind-at s) ≡ b → Outcome s
+    by-kind some low long odd true e = by-map some low long odd e (eqb (map-at s) (map-of (kind-at s))) refl
+    by-kind some low long odd false e = refuses unknown-kind (not-in-force s some low long odd e)
 
     by-bit : (length s ≡ 0 → ⊥) → map-at s < 64 → record-length (map-at s) ≤ length s → (b : Bool) → stands (map-at s) ≡ b → Outcome s
-    by-bit some low long true e = by-kind some low long (eqb-true _ _ e) (ltb (kind-at s) 1) (ltb last-kind (kind-at s)) refl refl
+    by-bit some low long true e = by-kind some low long (eqb-true _ _ e) (in-force (kind-at s)) refl
     by-bit some low long false e = refuses wrong-fields (no-kind s some low long (eqb-false _ _ e))
 
     by-size : (length s ≡ 0 → ⊥) → map-at s < 64 → (b : Bool) → ltb (length s) (record-length (map-at s)) ≡ b → Outcome s

@@ -1,17 +1,19 @@
--- The document's cases, of steps, records and sessions. Each is a row of one list, and one theorem checks them all.
+-- The document's cases, of steps, records and sessions, and document 02's. Each is a row of one list, and one theorem checks them all.
 -- Assumes nothing.
 use mathlib.Core.Path.{_≡_, refl}
 use mathlib.Core.List.{List, [], _∷_, _++_, map}
 use Prim.Native.Nat.{ℕ}
-use Rattle.store.specs.Model.{unbroken}
+use Rattle.store.specs.Model.{unbroken, interval-first, interval-last}
 use Rattle.store.specs.declared.Reply.{Reply}
 use Rattle.players.specs.declared.Step.{Step}
-use Rattle.players.specs.Replies.{reply, done, issued, cache-read, store-read, rejected, granted, refusal}
+use Rattle.players.specs.declared.Step.the-variants.{FindInterval}
+use Rattle.players.specs.Replies.{reply, done, issued, cache-read, store-read, rejected, granted, interval, refusal}
 use Rattle.players.specs.Rules.{State, replies, fresh}
 use Rattle.players.specs.Cases.{session as session-steps, cases as step-cases, Case as StepCase}
 use Rattle.players.specs.Kinds.{map-of, step-of}
 use Rattle.session.specs.Layout.{fields-length, record-length, fields, field-bytes}
-use Rattle.session.specs.Records.{cut-short, unknown-field, unknown-kind, wrong-fields, tested, decode, numbers, encode-all}
+use Rattle.session.specs.declared.Decoded.the-variants.{Record}
+use Rattle.session.specs.Records.{cut-short, unknown-field, unknown-kind, wrong-fields, tested, decode, numbers, encode, encode-all}
 use Rattle.session.specs.Mark.{mark, begins}
 use Rattle.session.specs.Runs.{at-end, spent, no-mark, run, run-from}
 
@@ -67,6 +69,10 @@ bad-middle = mark ++ (0x07 ∷ 0x04 ∷ 0x00 ∷ 0x09 ∷ 0x03 ∷ 0x04 ∷ 0x00
 abbrev refused-first : List ℕ
 refused-first = mark ++ (0x03 ∷ 0x0D ∷ 0x08 ∷ 0x07 ∷ 0x04 ∷ 0x00 ∷ 0x09 ∷ [])
 
+-- document 02 §1: a session of two steps of kind 14, and a kind that is not in force
+abbrev intervals-found : List ℕ
+intervals-found = mark ++ (0x05 ∷ 0x0E ∷ 0x07 ∷ 0x05 ∷ 0x0E ∷ 0xFF ∷ 0x05 ∷ 0x0F ∷ 0x07 ∷ [])
+
 -- ---- the rows
 
 -- "none 24; 40: 25; 02 00: 27; 01 C8: 26; 03 04 00: 27; 07 04 00: 24"
@@ -78,6 +84,14 @@ record-cases =
     ∷ case (record-bytes (0x01 ∷ 0xC8 ∷ [])) (refusal unknown-kind ∷ [])
     ∷ case (record-bytes (0x03 ∷ 0x04 ∷ 0x00 ∷ [])) (refusal wrong-fields ∷ [])
     ∷ case (record-bytes (0x07 ∷ 0x04 ∷ 0x00 ∷ [])) (refusal cut-short ∷ [])
+    -- document 02 §1, "kind 14, map 05": taken; other fields; cut short
+    ∷ case (record-bytes (0x05 ∷ 0x0E ∷ 0x07 ∷ [])) (done ∷ [])
+    ∷ case (record-bytes (0x01 ∷ 0x0E ∷ [])) (refusal wrong-fields ∷ [])
+    ∷ case (record-bytes (0x05 ∷ 0x0E ∷ [])) (refusal cut-short ∷ [])
+    -- "26 means a kind not in force": 15; 15 with the fields of 14, where 26 comes before 27; 0
+    ∷ case (record-bytes (0x01 ∷ 0x0F ∷ [])) (refusal unknown-kind ∷ [])
+    ∷ case (record-bytes (0x05 ∷ 0x0F ∷ 0x07 ∷ [])) (refusal unknown-kind ∷ [])
+    ∷ case (record-bytes (0x01 ∷ 0x00 ∷ [])) (refusal unknown-kind ∷ [])
     ∷ []
 
 abbrev session-cases : List Case
@@ -99,6 +113,8 @@ session-cases =
     ∷ case (session bad-middle 1 5460) (issued 1 ∷ reply spent 1 8 ∷ [])
     -- a refused step is taken, and the run goes on
     ∷ case (session refused-first 16384 5460) (refusal 28 ∷ issued 1 ∷ reply at-end 2 11 ∷ [])
+    -- document 02 §1: two guard intervals found, and a kind not in force
+    ∷ case (session intervals-found 16384 5460) (interval 0 255 ∷ interval 0 255 ∷ reply unknown-kind 2 10 ∷ [])
     ∷ []
 
 -- all of them: steps, records, sessions
@@ -107,10 +123,19 @@ cases = map (λ (c : StepCase). case (steps (c .from) (c .steps)) (c .expected))
 
 -- each case is found as expected
 pub theorem : map (λ (c : Case). found (c .given)) cases ≡ map (λ (c : Case). c .expected) cases
-unfolding unbroken fields-length record-length fields map-of step-of tested begins run-from
+unfolding unbroken interval-first interval-last fields-length record-length fields map-of step-of tested begins run-from
 theorem = refl
 
 -- the document's session is what is written for its steps
 pub written : mark ++ encode-all session-steps ≡ worked-session
 unfolding field-bytes map-of
 written = refl
+
+-- the record of a step of kind 14: read, and written
+pub interval-read : decode (0x05 ∷ 0x0E ∷ 0x07 ∷ []) ≡ Record (FindInterval 7) 3
+unfolding fields-length record-length fields map-of step-of tested
+interval-read = refl
+
+pub interval-written : encode (FindInterval 7) ≡ 0x05 ∷ 0x0E ∷ 0x07 ∷ []
+unfolding field-bytes map-of
+interval-written = refl

@@ -4,8 +4,8 @@ use crate::numbers;
 use players::Step;
 use store::Range;
 ghost use mathlib.Core.Path.{_≡_};
-ghost use Prim.Native.Nat.{_≤_};
-ghost use Rattle.players.specs.Kinds.{last-kind, map-of, step-of, numbers-of};
+ghost use mathlib.Core.Bool.{true};
+ghost use Rattle.players.specs.Kinds.{map-of, in-force, step-of, numbers-of};
 ghost use Rattle.session.specs.Layout.{widths, fields};
 ghost use Rattle.session.specs.Fields.{six, numbers};
 
@@ -35,14 +35,17 @@ pub const RESTART_TABLET: u8 = 12;
 
 pub const RESTART_PLAYER: u8 = 13;
 
-// The first of them and the last.
-pub const FIRST: u8 = ASSIGN;
+pub const FIND_INTERVAL: u8 = 14;
 
-pub const LAST: u8 = RESTART_PLAYER;
+// The last of them.
+const LAST: u8 = FIND_INTERVAL;
+
+// The map of a number that is no kind in force.
+pub(crate) const NO_MAP: u8 = 0x00;
 
 // The map of each kind, from 0, which is no kind.
-const MAPS: [u8; 14] = [
-    0x00,
+const MAPS: [u8; 15] = [
+    NO_MAP,
     0x0F,
     0x0D,
     0x0F,
@@ -56,19 +59,22 @@ const MAPS: [u8; 14] = [
     0x05,
     0x05,
     0x03,
+    0x05,
 ];
 
-// The map of a kind.
-pub(crate) fn map_of(kind: usize) -> u8
-    requires { ⌜ kind ≤ last-kind ⌝ }
+// The map of a kind in force, or none.
+pub(crate) fn map_of(kind: u8) -> u8
     ensures { λ r. ⌜ r ≡ map-of kind ⌝ }
 {
-    MAPS[kind]
+    if kind > LAST {
+        return NO_MAP;
+    }
+    MAPS[kind as usize]
 }
 
 // The step of a kind whose fields stand in the part.
 pub(crate) fn step_of(kind: u8, part: &[u8]) -> Step
-    requires { ⌜ (1 ≤ kind) × (kind ≤ last-kind) ⌝ }
+    requires { ⌜ in-force kind ≡ true ⌝ }
     ensures { λ r. ⌜ r ≡ step-of kind (fields widths (map-of kind) (now (part .entry)) 1) ⌝ }
 {
     match kind {
@@ -113,8 +119,11 @@ pub(crate) fn step_of(kind: u8, part: &[u8]) -> Step
         RESTART_TABLET => Step::RestartTablet {
             entry: numbers::byte_at(part, 2),
         },
-        _ => Step::RestartPlayer {
+        RESTART_PLAYER => Step::RestartPlayer {
             player: numbers::byte_at(part, 2),
+        },
+        _ => Step::FindInterval {
+            entry: numbers::byte_at(part, 2),
         },
     }
 }
@@ -183,5 +192,6 @@ pub fn fields_of(step: Step) -> Fields
         Step::Merge { entry } => of_entry(MERGE, 0, entry, 0),
         Step::RestartTablet { entry } => of_entry(RESTART_TABLET, 0, entry, 0),
         Step::RestartPlayer { player } => of_entry(RESTART_PLAYER, player, 0, 0),
+        Step::FindInterval { entry } => of_entry(FIND_INTERVAL, 0, entry, 0),
     }
 }

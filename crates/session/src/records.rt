@@ -11,7 +11,6 @@ use store::Reply;
 ghost use mathlib.Core.Path.{_≡_};
 ghost use Prim.Native.Nat.{_%_, _≤_, _<_};
 ghost use lib.ListN.{length};
-ghost use Rattle.players.specs.Kinds.{last-kind};
 ghost use Rattle.session.specs.Layout.{record-length};
 ghost use Rattle.session.specs.Fields.{numbers};
 ghost use Rattle.session.specs.Text.{Puts};
@@ -24,13 +23,10 @@ fn of_kind(part: &[u8], map: u8, size: usize) -> Decoded
     ensures { λ r. ⌜ Decodes (now (part .entry)) r ⌝ }
 {
     let kind = numbers::byte_at(part, 1);
-    if kind < kinds::FIRST {
+    let right = kinds::map_of(kind);
+    if right == kinds::NO_MAP {
         return Decoded::Refused(codes::UNKNOWN_KIND);
     }
-    if kinds::LAST < kind {
-        return Decoded::Refused(codes::UNKNOWN_KIND);
-    }
-    let right = kinds::map_of(kind as usize);
     if map == right {
         Decoded::Record {
             step: kinds::step_of(kind, part),
@@ -64,10 +60,10 @@ pub fn decode(part: &[u8]) -> Decoded
 
 // Puts the record of these fields, without those that the kind lacks, at the start of a line, and gives its length.
 fn put(line: &mut [u8], f: Fields) -> usize
-    requires { ⌜ (14 ≤ length (now line)) × (f .kind ≤ last-kind) ⌝ }
+    requires { ⌜ 14 ≤ length (now line) ⌝ }
     ensures { λ r. ⌜ Puts (record-of (numbers f)) 14 0 (now (line .entry)) (now (line .exit)) r ⌝ }
 {
-    let map = kinds::map_of(f.kind as usize);
+    let map = kinds::map_of(f.kind);
     numbers::put_record(line, map, f)
 }
 
@@ -75,10 +71,7 @@ fn put(line: &mut [u8], f: Fields) -> usize
 pub fn of_fields(f: Fields) -> Decoded
     ensures { λ r. ⌜ r ≡ of-numbers (numbers f) ⌝ }
 {
-    if f.kind < kinds::FIRST {
-        return Decoded::Refused(codes::UNKNOWN_KIND);
-    }
-    if kinds::LAST < f.kind {
+    if kinds::map_of(f.kind) == kinds::NO_MAP {
         return Decoded::Refused(codes::UNKNOWN_KIND);
     }
     let mut line = [0u8; layout::LONGEST];

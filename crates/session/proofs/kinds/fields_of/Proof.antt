@@ -83,6 +83,12 @@ enum-known-step-13 c = search needs
 of-entry-requires-6 : tie.Need-of-entry-requires-6
 of-entry-requires-6 c κs = search needs
 
+enum-known-step-14 : tie.Need-enum-known-step-14
+enum-known-step-14 c = search needs
+
+of-entry-requires-7 : tie.Need-of-entry-requires-7
+of-entry-requires-7 c κs = search needs
+
 returns : tie.Need-returns
 unfolding spread map-of
 returns c = rw (c .before .before .step .given .1) (c .ranged .ensures)
@@ -135,6 +141,10 @@ returns-13 : tie.Need-returns-13
 unfolding spread map-of
 returns-13 c = rw (c .before .before .step13 .given .1) (c .of-entry6 .ensures)
 
+returns-14 : tie.Need-returns-14
+unfolding spread map-of
+returns-14 c = rw (c .before .before .step14 .given .1) (c .of-entry7 .ensures)
+
 pub fields-of-spec : {M : Type 1} → statement M
 fields-of-spec =
     tie.close
@@ -165,6 +175,8 @@ fields-of-spec =
     of-entry-requires-5
     enum-known-step-13
     of-entry-requires-6
+    enum-known-step-14
+    of-entry-requires-7
     returns
     returns-2
     returns-3
@@ -177,4 +189,5 @@ fields-of-spec =
     returns-10
     returns-11
     returns-12
-    returns-13)
+    returns-13
+    returns-14)

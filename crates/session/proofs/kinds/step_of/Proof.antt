@@ -2,8 +2,9 @@
 -- Assumes nothing.
 use mathlib.Core.Path.{ap}
 use native.Mathlib.Nat.{le-antisymm}
-use Rattle.players.specs.declared.Step.the-variants.{Assign, Release, RequestGuard, Read, Write, Deliver, Respond, Abandon, Lose, Split, Merge, RestartTablet, RestartPlayer}
+use Rattle.players.specs.declared.Step.the-variants.{Assign, Release, RequestGuard, Read, Write, Deliver, Respond, Abandon, Lose, Split, Merge, RestartTablet, RestartPlayer, FindInterval}
 use Rattle.players.specs.Kinds.{map-of, step-of}
+use Rattle.players.proofs.KindLaws.{in-force-range}
 use Rattle.session.specs.Layout.{fields}
 use borrow.Author.Needs.{needs}
 use Rattle.session.proofs.StepLaws.{beyond, of-kind, by-range, by-player-and-range, by-two, by-three}
@@ -64,6 +65,9 @@ byte-at-requires-9 c κs = search needs
 byte-at-requires-10 : tie.Need-byte-at-requires-10
 byte-at-requires-10 c κs = search needs
 
+byte-at-requires-11 : tie.Need-byte-at-requires-11
+byte-at-requires-11 c κs = search needs
+
 returns : tie.Need-returns
 unfolding step-of map-of fields
 returns c =
@@ -122,9 +126,15 @@ returns-12 c = of-kind 12 (c .before .before .before .args .part .now) (c .befor
 
 returns-13 : tie.Need-returns-13
 unfolding step-of map-of fields
-returns-13 c =
+returns-13 c = of-kind 13 (c .before .before .before .args .part .now) (c .before .match .keys13) (ap RestartPlayer (c .byte-at10 .ensures))
+
+returns-14 : tie.Need-returns-14
+unfolding step-of map-of fields
+returns-14 c =
     let k = c .before .before .before .args .kind in
-    let r12 = c .before .match .rest in
+    let range = in-force-range k (c .before .before .before .pre) in
+    let r13 = c .before .match .rest in
+    let r12 = r13 .0 in
     let r11 = r12 .0 in
     let r10 = r11 .0 in
     let r9 = r10 .0 in
@@ -136,7 +146,7 @@ returns-13 c =
     let r3 = r4 .0 in
     let r2 = r3 .0 in
     let r1 = r2 .0 in
-    let b1 = beyond 1 k (c .before .before .before .pre .0) (r1 .1) in
+    let b1 = beyond 1 k (range .0) (r1 .1) in
     let b2 = beyond 2 k b1 (r2 .1) in
     let b3 = beyond 3 k b2 (r3 .1) in
     let b4 = beyond 4 k b3 (r4 .1) in
@@ -148,7 +158,8 @@ returns-13 c =
     let b10 = beyond 10 k b9 (r10 .1) in
     let b11 = beyond 11 k b10 (r11 .1) in
     let b12 = beyond 12 k b11 (r12 .1) in
-    of-kind 13 (c .before .before .before .args .part .now) (le-antisymm (c .before .before .before .pre .1) b12) (ap RestartPlayer (c .byte-at10 .ensures))
+    let b13 = beyond 13 k b12 (r13 .1) in
+    of-kind 14 (c .before .before .before .args .part .now) (le-antisymm (range .1) b13) (ap FindInterval (c .byte-at11 .ensures))
 
 pub step-of-spec : {M : Type 1} → statement M
 step-of-spec =
@@ -172,6 +183,7 @@ step-of-spec =
     byte-at-requires-8
     byte-at-requires-9
     byte-at-requires-10
+    byte-at-requires-11
     returns
     returns-2
     returns-3
@@ -184,4 +196,5 @@ step-of-spec =
     returns-10
     returns-11
     returns-12
-    returns-13)
+    returns-13
+    returns-14)

@@ -9,7 +9,7 @@ use lib.Seq.{length-take-le}
 use denote.Ref.{now}
 use Rattle.session.specs.Written.{written}
 use Rattle.session.proofs.WriteLaws.{take-few}
-use Rattle.session.proofs.EncodeLaws.{first-known, encoded}
+use Rattle.session.proofs.EncodeLaws.{encoded}
 use borrow.Author.Needs.{needs}
 use Rattle.session.proofs.records.encode.Statement.{statement}
 use Rattle.session.proofs.records.encode.Tie as tie
@@ -21,7 +21,7 @@ slice-aggregate-put : tie.Need-slice-aggregate-put
 slice-aggregate-put c = search needs
 
 put-requires : tie.Need-put-requires
-put-requires c κs = (omega arith, first-known (c .before .before .before .args .step) _ (c .before .fields-of .ensures))
+put-requires c κs = search needs
 
 array-share-prefix-line : tie.Need-array-share-prefix-line
 array-share-prefix-line c = search needs

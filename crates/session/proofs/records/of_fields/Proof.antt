@@ -1,22 +1,24 @@
 -- `session::records::of_fields` meets its contract: the first bytes of the line are the record's, which reads as the step.
 -- Assumes nothing.
 use mathlib.Core.Path.{_∙_, refl, sym, ap}
-use mathlib.Core.Logic.{inl, inr}
 use Prim.Native.Nat.{_≤_}
-use native.Mathlib.Omega.{arith}
 use lib.ListN.{length}
 use lib.Seq.{length-take-le}
+use Rattle.players.proofs.KindLaws.{has-map, no-map}
 use Rattle.session.specs.Records.{decode}
 use Rattle.session.proofs.RoundTrip.{no-kind, record-read}
 use borrow.Author.Needs.{needs}
 use Rattle.session.proofs.records.of_fields.Statement.{statement}
 use Rattle.session.proofs.records.of_fields.Tie as tie
 
-returns : tie.Need-returns
-returns c = let a = c .before .before .args .f in no-kind (a .kind) _ refl (inl (c .if1 .taken))
+map-of-requires : tie.Need-map-of-requires
+map-of-requires c κs = search needs
 
-returns-2 : tie.Need-returns-2
-returns-2 c = let a = c .before .before .before .before .args .f in no-kind (a .kind) _ refl (inr (c .if2 .taken))
+returns : tie.Need-returns
+returns c =
+    let m = c .before in
+    let a = m .before .args .f in
+    no-kind (a .kind) _ refl (no-map (a .kind) (sym (m .map-of .ensures) ∙ c .if1 .taken))
 
 slice-aggregate-put : tie.Need-slice-aggregate-put
 slice-aggregate-put c = search needs
@@ -37,21 +39,23 @@ slice-aggregate-decode c =
 decode-requires : tie.Need-decode-requires
 decode-requires c κs = search needs
 
-returns-3 : tie.Need-returns-3
-returns-3 c =
+returns-2 : tie.Need-returns-2
+returns-2 c =
     let w = c .before .before .before in
-    let a = w .before .before .before .before .before .before .args .f in
-    c .decode .ensures .answer ∙ ap decode (w .put .ensures .stands) ∙ record-read (a .kind) _ refl (omega arith) (omega arith)
+    let i = w .before .before in
+    let m = i .before in
+    let a = m .before .args .f in
+    c .decode .ensures .answer ∙ ap decode (w .put .ensures .stands) ∙ record-read (a .kind) _ refl (has-map (a .kind) (λ e. i .if1 .left (m .map-of .ensures ∙ e)))
 
 pub of-fields-spec : {M : Type 1} → statement M
 of-fields-spec =
     tie.close
     (tie.spec
+    map-of-requires
     returns
-    returns-2
     slice-aggregate-put
     put-requires
     array-share-prefix-line
     slice-aggregate-decode
     decode-requires
-    returns-3)
+    returns-2)

@@ -6,9 +6,6 @@ use borrow.Author.Needs.{needs}
 use Rattle.session.proofs.records.put.Statement.{statement}
 use Rattle.session.proofs.records.put.Tie as tie
 
-cast-map-of : tie.Need-cast-map-of
-cast-map-of c = search needs
-
 map-of-requires : tie.Need-map-of-requires
 map-of-requires c κs = search needs
 
@@ -22,8 +19,8 @@ returns : tie.Need-returns
 returns c =
     let w = c .before .before in
     let m = w .before .before in
-    let a = m .before .before .before .args in
+    let a = m .before .before .args in
     by-map (numbers (a .f)) (m .map-of .ensures) (w .put-record .ensures)
 
 pub put-spec : {M : Type 1} → statement M
-put-spec = tie.close (tie.spec cast-map-of map-of-requires put-record-requires same-length returns)
+put-spec = tie.close (tie.spec map-of-requires put-record-requires same-length returns)
