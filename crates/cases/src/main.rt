@@ -1,6 +1,6 @@
-// Tries the edges of document 01 at run time, on real tables. Standard input has the calls, one to a line; each is printed with its reply,
+// Tries the edges of the documents at run time, on real tables. Standard input has the calls, one to a line; each is printed with its reply,
 // and where a call may change nothing, the two tables are compared with what they were, word by word. The file stdout has the replies that
-// the document demands, worked out by hand.
+// they demand, worked out by hand.
 mod calls;
 mod lengths;
 mod line;

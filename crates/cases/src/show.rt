@@ -1,4 +1,4 @@
-// Text on standard output, in document 01's words.
+// Text on standard output, in the documents' words.
 use players::Step;
 use session::kinds;
 use session::kinds::fields_of;
@@ -41,6 +41,7 @@ fn kind(kind: u8) {
         kinds::MERGE => say(b"merge"),
         kinds::RESTART_TABLET => say(b"restart tablet"),
         kinds::RESTART_PLAYER => say(b"restart player"),
+        kinds::FIND_INTERVAL => say(b"find stretch"),
         _ => other(kind),
     }
 }

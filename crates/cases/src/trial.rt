@@ -79,12 +79,17 @@ fn part(store: &mut [u32], n: usize, players: &mut [u32], m: usize) {
     both(&mut store[0..n], &mut players[0..m]);
 }
 
-// Makes tables fresh and takes a step.
+// Makes tables fresh and takes two steps.
 fn both(store: &mut [u32], players: &mut [u32]) {
     show::say(b", fresh");
     show::reply(players::fresh(store, players));
+    then(store, players, Step::Split { entry: 9 });
+    then(store, players, Step::FindInterval { entry: 9 });
+}
+
+// Takes a step after other calls of the line.
+fn then(store: &mut [u32], players: &mut [u32], next: Step) {
     show::say(b", ");
-    let next = Step::Split { entry: 9 };
     show::step(next);
     show::reply(steps::step(store, players, next));
 }

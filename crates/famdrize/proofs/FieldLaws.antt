@@ -1,15 +1,15 @@
 -- A step and its six numbers determine each other.
 -- Assumes nothing.
 use mathlib.Core.Path.{_≡_, _∙_, refl, sym, ap}
-use mathlib.Core.Bool.{Bool, true, false, cond, _&&_, _||_}
+use mathlib.Core.Bool.{Bool, true, false, cond, _&&_}
 use mathlib.Core.List.{List, [], _∷_}
-use Prim.Native.Nat.{ℕ, zero, suc, _/_, _≤_, _<_}
+use Prim.Native.Nat.{ℕ, zero, suc, _/_, _<_}
 use native.Mathlib.Omega.{arith}
 use lib.ListN.{length, getD, drop}
-use lib.Dec.{ltb, eqb}
-use borrow.Author.Tests.{le-ltb, eq-eqb, ltb-false, eqb-true}
+use lib.Dec.{eqb}
+use borrow.Author.Tests.{eq-eqb, eqb-true}
 use Rattle.players.specs.declared.Step.{Step}
-use Rattle.players.specs.Kinds.{stands, last-kind, map-of, kind-and-fields, kind, step-of, spread, numbers-of, Fits}
+use Rattle.players.specs.Kinds.{stands, map-of, in-force, kind-and-fields, kind, step-of, spread, numbers-of, Fits}
 use Rattle.players.proofs.StepCases.{known}
 use Rattle.players.proofs.KindLaws.{kind-map, fields-made, kind-made, fits-by}
 use Rattle.session.specs.Layout.{record-length}
@@ -74,17 +74,17 @@ pub record Stands (k p e h v s : ℕ) : Type 0 where
   pub kinds : kind (step-of k (standing (map-of k) (six k p e h v s))) ≡ k
   pub fields : kind-and-fields (step-of k (standing (map-of k) (six k p e h v s))) ≡ standing (map-of k) (six k p e h v s)
 
-module _ (k p e h v s : ℕ) (from : 1 ≤ k) (to : k ≤ last-kind) where
+module _ (k p e h v s : ℕ) (force : in-force k ≡ true) where
   abbrev vs : List ℕ
   vs = standing (map-of k) (six k p e h v s)
 
   first : getD vs 0 0 ≡ k
-  first = first-standing (map-of k) k (p ∷ e ∷ h ∷ v ∷ s ∷ []) (kind-map k from to .odd)
+  first = first-standing (map-of k) k (p ∷ e ∷ h ∷ v ∷ s ∷ []) (kind-map k force .odd)
 
   pub kind-stands : Stands k p e h v s
   kind-stands =
       let n = count-standing (map-of k) (six k p e h v s) in
-      record { kinds = kind-made k from to vs n first; fields = fields-made k from to vs n first }
+      record { kinds = kind-made k force vs n first; fields = fields-made k force vs n first }
 
 -- ---- the step of six numbers
 
@@ -95,16 +95,15 @@ module _ (k p e h v s : ℕ) where
   -- a kind that is not in force, and one that is
   data Kind : Type 0 where
     none : (n : ℕ) → of-numbers six-numbers ≡ Unread n → stated six-numbers ≡ Refused n → Kind
-    one : 1 ≤ k → k ≤ last-kind → of-numbers six-numbers ≡ Record (step-of k (standing (map-of k) six-numbers)) (record-length (map-of k)) → Kind
+    one : in-force k ≡ true → of-numbers six-numbers ≡ Record (step-of k (standing (map-of k) six-numbers)) (record-length (map-of k)) → Kind
 
   kind-of : Kind
   unfolding stated
-  kind-of = by (ltb k 1) (ltb last-kind k) refl refl
+  kind-of = by (in-force k) refl
     where
-      by : (a b : Bool) → ltb k 1 ≡ a → ltb last-kind k ≡ b → Kind
-      by true b f g = none unknown-kind (rw f) (rw f)
-      by false true f g = none unknown-kind (rw (f, g)) (rw (f, g))
-      by false false f g = one (ltb-false k 1 f) (ltb-false last-kind k g) (rw (f, g))
+      by : (b : Bool) → in-force k ≡ b → Kind
+      by true f = one f (rw f)
+      by false f = none unknown-kind (rw f) (rw f)
 
   -- what is read of them: a refusal
   pub stated-refused : (n : ℕ) → of-numbers six-numbers ≡ Unread n → Refused n ≡ stated six-numbers
@@ -112,7 +111,7 @@ module _ (k p e h v s : ℕ) where
     where
       by : Kind → Refused n ≡ stated six-numbers
       by (none m q f) = let z : n ≡ m = cc in rw z (sym f)
-      by (one from to q) = absurd (let z : _≡_ {A = ℕ} 0 1 = cc in omega arith)
+      by (one force q) = absurd (let z : _≡_ {A = ℕ} 0 1 = cc in omega arith)
 
   -- or a step, whose numbers are compared with these
   pub stated-by : (x : Step) (n : ℕ) → of-numbers six-numbers ≡ Record x n → (b : Bool) → b ≡ agree six-numbers (numbers-of x) → stated six-numbers ≡ cond b (Taken x) (Refused wrong-fields)
@@ -121,11 +120,11 @@ module _ (k p e h v s : ℕ) where
     where
       by : Kind → stated six-numbers ≡ cond b (Taken x) (Refused wrong-fields)
       by (none m q g) = absurd (let z : _≡_ {A = ℕ} 0 1 = cc in omega arith)
-      by (one from to q) =
-          let a = kind-stands k p e h v s from to in
+      by (one force q) =
+          let a = kind-stands k p e h v s force in
           let made : step-of k (standing (map-of k) six-numbers) ≡ x = cc in
           let same : others-zero (map-of k) six-numbers ≡ agree six-numbers (numbers-of x) = zero-agree (map-of k) six-numbers ∙ rw (← made, a .kinds, a .fields) in
-          rw (le-ltb k 1 from, le-ltb last-kind k to, same, f, made)
+          rw (force, same, f, made)
 
 -- ---- both directions
 
@@ -135,27 +134,26 @@ unfolding stated
 numbers-back x =
     let k = known x in
     let m = map-of (kind x) in
-    rw (first-number x, le-ltb (kind x) 1 (k .from), le-ltb last-kind (kind x) (k .to), spread-zero 6 m (kind-and-fields x), standing-spread 6 m (kind-and-fields x) (k .fields), k .same)
+    rw (first-number x, k .force, spread-zero 6 m (kind-and-fields x), standing-spread 6 m (kind-and-fields x) (k .fields), k .same)
 
 -- and no others are
 pub only-numbers : (k p e h v s : ℕ) (x : Step) → stated (six k p e h v s) ≡ Taken x → numbers-of x ≡ six k p e h v s
 unfolding stated
-only-numbers k p e h v s x is = by-kind (ltb k 1) (ltb last-kind k) refl refl is
+only-numbers k p e h v s x is = by-kind (in-force k) refl is
   where
-    by-zero : 1 ≤ k → k ≤ last-kind → (z : Bool) → others-zero (map-of k) (six k p e h v s) ≡ z
+    by-zero : in-force k ≡ true → (z : Bool) → others-zero (map-of k) (six k p e h v s) ≡ z
         → cond z (Taken (step-of k (standing (map-of k) (six k p e h v s)))) (Refused wrong-fields) ≡ Taken x → numbers-of x ≡ six k p e h v s
-    by-zero from to true f g =
-        let a = kind-stands k p e h v s from to in
+    by-zero force true f g =
+        let a = kind-stands k p e h v s force in
         let same : step-of k (standing (map-of k) (six k p e h v s)) ≡ x = cc in
         rw (← same, a .kinds, a .fields) (zero-spread (map-of k) (six k p e h v s) f)
-    by-zero from to false f g = absurd (let z : _≡_ {A = ℕ} 0 1 = cc in omega arith)
+    by-zero force false f g = absurd (let z : _≡_ {A = ℕ} 0 1 = cc in omega arith)
 
-    by-kind : (a b : Bool) → ltb k 1 ≡ a → ltb last-kind k ≡ b
-        → cond (a || b) (Refused unknown-kind) (cond (others-zero (map-of k) (six k p e h v s)) (Taken (step-of k (standing (map-of k) (six k p e h v s)))) (Refused wrong-fields)) ≡ Taken x
+    by-kind : (b : Bool) → in-force k ≡ b
+        → cond b (cond (others-zero (map-of k) (six k p e h v s)) (Taken (step-of k (standing (map-of k) (six k p e h v s)))) (Refused wrong-fields)) (Refused unknown-kind) ≡ Taken x
         → numbers-of x ≡ six k p e h v s
-    by-kind true b f g taken = absurd (let z : _≡_ {A = ℕ} 0 1 = cc in omega arith)
-    by-kind false true f g taken = absurd (let z : _≡_ {A = ℕ} 0 1 = cc in omega arith)
-    by-kind false false f g taken = by-zero (ltb-false k 1 f) (ltb-false last-kind k g) (others-zero (map-of k) (six k p e h v s)) refl taken
+    by-kind false f taken = absurd (let z : _≡_ {A = ℕ} 0 1 = cc in omega arith)
+    by-kind true f taken = by-zero f (others-zero (map-of k) (six k p e h v s)) refl taken
 
 -- ---- the entry of a step is the third of its numbers, so that it fits where that does
 pub stated-fits : (k p e h v s : ℕ) (x : Step) → e < 256 → stated (six k p e h v s) ≡ Taken x → Fits x

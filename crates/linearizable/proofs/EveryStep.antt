@@ -18,7 +18,7 @@ use Rattle.linearizable.proofs.Tests.{and-right}
 use Rattle.linearizable.proofs.Invariant.{Inv}
 use Rattle.linearizable.proofs.KeptByStep.{Keeps, owner-keeps, guard-request-keeps, read-keeps, write-keeps, set-keeps, no-effect-keeps, fetched-keeps, commit-keeps, is-write-kind, granted-keeps, removed-keeps, cache-keeps, drop-guard-keeps, write-marked-keeps, marked-keeps, store-keeps, tablet-keeps, restart-keeps}
 use Rattle.linearizable.proofs.Simulation.{Sim}
-use Rattle.linearizable.proofs.StepMoves.{Goal, refused, owned, request-begins, cache-read-begins, read-begins, write-begins, guard-set, guard-not-set, read-delivered, write-committed-now, write-rejected-now, grants, leaves, answers, cached-guards, read-answered, committed-answered, rejected-answered, dropped-guards, marks, store-changes, player-restarts, cond-or-zero}
+use Rattle.linearizable.proofs.StepMoves.{Goal, unaltered, refused, owned, request-begins, cache-read-begins, read-begins, write-begins, guard-set, guard-not-set, read-delivered, write-committed-now, write-rejected-now, grants, leaves, answers, cached-guards, read-answered, committed-answered, rejected-answered, dropped-guards, marks, store-changes, player-restarts, cond-or-zero}
 
 -- ---- the invariant
 
@@ -54,6 +54,7 @@ kept-cases s i =
       merges = λ e _. store-keeps s i (set-boundary s e 0 .state .store) (λ x h. refl) (λ x. refl) (λ x. refl);
       restarts-tablet = λ e. tablet-keeps s i e;
       restarts-player = λ p _. restart-keeps s i p;
+      finds = λ e. i;
     }
 
 pub step-keeps : (s : State) (x : Step) → Inv s → Inv (step s x .state)
@@ -94,6 +95,7 @@ module _ {h : List Event} {s : State} {l : Ledger} (sim : Sim h s l) (inv : Inv 
         merges = λ e _. store-changes sim inv _ (λ st. with-boundary st (put e 0 (st .boundary))) (λ k. inl refl) refl refl;
         restarts-tablet = λ e. store-changes sim inv _ (λ st. restarted st e) (λ k. cond-or-zero (within (tablet-first (s .store .boundary) e) (tablet-end (s .store .boundary) e (255 - e)) k) (s .store .guard k)) refl refl;
         restarts-player = λ p _. player-restarts sim inv p;
+        finds = λ e. unaltered sim inv _ refl refl;
       }
 
   pub moves : (x : Step) → Goal sim inv x (step s x)
