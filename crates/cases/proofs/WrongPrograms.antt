@@ -1,19 +1,20 @@
--- "Demand 2 rejects": the wrong programs that document 01 names, each against the whole promise of `steps::step` or of `steps::running::run`. A program
--- is here what it does to what is lent to it, whatever its code. Each theorem says what the fault is, and that no program with it keeps the promise.
+-- "Demand 2 rejects": the wrong programs that document 01 names, and wrong readings of document 02, each against the whole promise of `steps::step` or of
+-- `steps::running::run`. A program is here what it does to what is lent to it, whatever its code. Each theorem says what the fault is, and that no program with
+-- it keeps the promise.
 -- Assumes nothing.
 use mathlib.Core.Path.{_≡_, ap, refl, sym, _∙_}
 use mathlib.Core.Bool.{Bool, true, false, cond, _&&_}
 use mathlib.Core.List.{List, [], _∷_, _++_, map}
-use Prim.Native.Nat.{ℕ, zero, suc, _+_, _/_, _^_, _<_, _≤_}
+use Prim.Native.Nat.{ℕ, zero, suc, _+_, _-_, _/_, _^_, _<_, _≤_}
 use native.Mathlib.Omega.{arith}
 use lib.Dec.{T, ltb, eqb}
 use lib.ListN.{length, getD, drop}
-use Rattle.store.specs.Model.{unbroken, tablet-first, tablet-end}
+use Rattle.store.specs.Model.{unbroken, tablet-first, tablet-end, interval-first, interval-last}
 use Rattle.store.specs.Table.{part as part-of, seek, guardAt, storeOf, coded, laid, listed, tableOf as store-table, at-most, rising, intervals, boundaries, valid as valid-store}
 use Rattle.store.specs.declared.Reply.{Reply}
 use Rattle.requests.specs.Region.{requestOf, requestsFrom, requestsOf, placed, fields-hold, outcome-holds, request-holds, words-fit, places-hold, valid as valid-requests}
 use Rattle.players.specs.declared.Step.{Step}
-use Rattle.players.specs.declared.Step.the-variants.{Assign, RequestGuard, Read, Deliver, Respond, Split}
+use Rattle.players.specs.declared.Step.the-variants.{Assign, RequestGuard, Read, Deliver, Respond, Split, FindInterval}
 use Rattle.players.specs.Rules.{State, step, fresh}
 use Rattle.players.specs.Replies.{done}
 use Rattle.players.specs.Regions.{region}
@@ -29,6 +30,7 @@ use Rattle.session.specs.Records.{tested, decode}
 use Rattle.session.specs.Mark.{mark, begins, marked}
 use Rattle.session.specs.Runs.{Run, stopped, took, on-record, run-from, allowed, steps-from, steps, longest, whole-places}
 use Rattle.requests.proofs.Basics.{cond-elim}
+use Rattle.players.proofs.IntervalLaws.{interval-taken}
 use Rattle.session.proofs.Refusals.{Numbered, decode-numbered}
 use Rattle.steps.specs.RunCalls.{Finished, ran, reply-at}
 
@@ -182,6 +184,80 @@ never-reads-from-memory f fault k =
     let st = store-after read-answered in
     let t = players-after read-answered in
     fault 0 1 st t (fits .4, words .6, words .7) (ap (λ (d : Done). d .reply .code) (k (Read 0 1) st t (fits .4, words .6, words .7)) ∙ at 7 0 rows)
+
+-- ---- document 02 §1: wrong readings of how far a guard reaches
+
+-- guard 2 is set over 0 to 9, and a boundary stands at entry 5
+abbrev guard-split : List Step
+guard-split = asked ++ (Deliver 2 ∷ Split 5 ∷ [])
+
+split-words : Words (store-after guard-split) × Words (players-after guard-split)
+unfolding unbroken tablet-first tablet-end seek guardAt requestOf requestsFrom requestsOf fields-hold outcome-holds request-holds words-fit cell region at-most cached-holds cached-all placed places-hold valid-requests boundaries intervals rising coded laid valid valid-players valid-store stateOf storeOf part-of store-table tableOf listed state-after
+split-words = (tt, tt)
+
+split-fits : T (step-fits (FindInterval 6)) × T (step-fits (FindInterval 9))
+unfolding map-of
+split-fits = (tt, tt)
+
+-- a reply, and the last serial after it
+abbrev reached : Done → List ℕ
+reached d = d .reply .code ∷ d .reply .a ∷ d .reply .b ∷ getD (d .players) 0 0 ∷ []
+
+-- of entry 6, in the second tablet, and of entry 9, past the guard; then the last serial before, the boundary, and the guards of the entries 6, 8 and 9
+reach-rows :
+    map reached (taken (FindInterval 6) (store-after guard-split) (players-after guard-split) ∷ taken (FindInterval 9) (store-after guard-split) (players-after guard-split) ∷ [])
+    ++ ((getD (players-after guard-split) 0 0 ∷ getD (store-after guard-split) 5 0 ∷ map (storeOf (store-after guard-split) .guard) (6 ∷ 8 ∷ 9 ∷ [])) ∷ [])
+    ≡ (9 ∷ 0 ∷ 8 ∷ 2 ∷ []) ∷ (9 ∷ 9 ∷ 255 ∷ 2 ∷ []) ∷ (2 ∷ 1 ∷ 2 ∷ 2 ∷ 0 ∷ []) ∷ []
+unfolding unbroken tablet-first tablet-end interval-first interval-last seek guardAt requestOf requestsFrom requestsOf fields-hold outcome-holds request-holds words-fit cell region at-most cached-holds cached-all placed places-hold valid-requests boundaries intervals rising coded laid valid valid-players valid-store stateOf storeOf part-of store-table tableOf listed state-after
+reach-rows = refl
+
+module _ (f : Program) (k : Keeps f) where
+  abbrev st : List ℕ
+  st = store-after guard-split
+
+  abbrev t : List ℕ
+  t = players-after guard-split
+
+  second : f (FindInterval 6) st t ≡ taken (FindInterval 6) st t
+  second = k (FindInterval 6) st t (split-fits .0, split-words .0, split-words .1)
+
+  past : f (FindInterval 9) st t ≡ taken (FindInterval 9) st t
+  past = k (FindInterval 9) st t (split-fits .1, split-words .0, split-words .1)
+
+  -- an interval cut at the boundaries: none stands after its first entry, up to its last
+  pub interval-cut : ((e i : ℕ) (st t : List ℕ) → Handed (FindInterval e) st t → f (FindInterval e) st t .reply .a < i → i ≤ f (FindInterval e) st t .reply .b → getD st i 0 ≡ 1 → ⊥) → ⊥
+  interval-cut fault =
+      let a = ap (λ (d : Done). d .reply .a) second ∙ at 0 1 reach-rows in
+      let b = ap (λ (d : Done). d .reply .b) second ∙ at 0 2 reach-rows in
+      fault 6 5 st t (split-fits .0, split-words .0, split-words .1) (omega arith) (omega arith) (at 2 1 reach-rows)
+
+  -- one too short at its first end: the entry before its first has the entry's guard
+  pub interval-begins-late : ((e : ℕ) (st t : List ℕ) → Handed (FindInterval e) st t → storeOf st .guard (f (FindInterval e) st t .reply .a - 1) ≡ storeOf st .guard e) → ⊥
+  interval-begins-late fault =
+      let a = ap (λ (d : Done). d .reply .a) past ∙ at 1 1 reach-rows in
+      let i : f (FindInterval 9) st t .reply .a - 1 ≡ 8 = omega arith in
+      let same = ap (storeOf st .guard) (sym i) ∙ fault 9 st t (split-fits .1, split-words .0, split-words .1) in
+      omega (arith, same, at 2 3 reach-rows, at 2 4 reach-rows)
+
+  -- one too short at its last end: the entry after its last has the entry's guard
+  pub interval-ends-early : ((e : ℕ) (st t : List ℕ) → Handed (FindInterval e) st t → storeOf st .guard (f (FindInterval e) st t .reply .b + 1) ≡ storeOf st .guard e) → ⊥
+  interval-ends-early fault =
+      let b = ap (λ (d : Done). d .reply .b) second ∙ at 0 2 reach-rows in
+      let i : f (FindInterval 6) st t .reply .b + 1 ≡ 9 = omega arith in
+      let same = ap (storeOf st .guard) (sym i) ∙ fault 6 st t (split-fits .0, split-words .0, split-words .1) in
+      omega (arith, same, at 2 2 reach-rows, at 2 4 reach-rows)
+
+  -- a step 14 that takes a serial
+  pub interval-takes-serial : ((e : ℕ) (st t : List ℕ) → Handed (FindInterval e) st t → getD (f (FindInterval e) st t .players) 0 0 ≡ getD t 0 0 + 1) → ⊥
+  interval-takes-serial fault =
+      let e = ap (λ (d : Done). getD (d .players) 0 0) second ∙ at 0 3 reach-rows in
+      omega (arith, e, fault 6 st t (split-fits .0, split-words .0, split-words .1), at 2 0 reach-rows)
+
+  -- or that alters any word of a table, on whatever words
+  pub interval-alters : (e : ℕ) (st t : List ℕ) → Handed (FindInterval e) st t → ((f (FindInterval e) st t .store ≡ st) × (f (FindInterval e) st t .players ≡ t) → ⊥) → ⊥
+  interval-alters e st t h alters =
+      let same = k (FindInterval e) st t h ∙ interval-taken st t e in
+      alters (ap (λ (d : Done). d .store) same, ap (λ (d : Done). d .players) same)
 
 -- ---- a run
 

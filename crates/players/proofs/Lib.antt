@@ -8,5 +8,6 @@ pub mod Kept
 pub mod StepCases
 pub mod KindLaws
 pub mod CallLaws
+pub mod IntervalLaws
 pub mod Refusals
 pub mod PlayedLaws
