@@ -3,15 +3,18 @@
 use mathlib.Core.Path.{_≡_, refl, sym, ap, _∙_}
 use mathlib.Core.Bool.{Bool, true, false, cond, not, true≢false}
 use mathlib.Core.List.{List}
-use Prim.Native.Nat.{ℕ}
+use Prim.Native.Nat.{ℕ, _<_}
 use lib.Dec.{T, eqb}
 use lib.ListN.{length, take, drop}
 use borrow.Author.Tests.{eq-eqb, ne-eqb, lt-ltb, le-leb}
 use borrow.Rule.Slice.PartMut.{putMid}
 use Rattle.store.specs.declared.Reply.{Reply}
+use Rattle.store.specs.declared.Interval.{Interval}
 use Rattle.store.specs.Model.{Store, bad-range, one-tablet, guarded, commits, committed}
 use Rattle.store.specs.Table.{storeOf, tableOf as store-table}
-use Rattle.store.specs.Calls.{Result as StoreResult, Done as StoreDone, Refines as StoreRefines, encoded as store-encoded, reply, result, refusal as refused-store, outcome, install, read, commit, split, merge, restart}
+use Rattle.store.specs.Calls.{Result as StoreResult, Done as StoreDone, Refines as StoreRefines, encoded as store-encoded, reply, result, refusal as refused-store, outcome, install, read, commit, split, merge, restart, interval-of}
+use Rattle.store.specs.Words.{interval-words}
+use Rattle.store.proofs.Reach.{interval-right}
 use Rattle.requests.specs.declared.Request.{Request}
 use Rattle.requests.specs.declared.Fit.the-variants.{Undelivered}
 use Rattle.requests.specs.declared.Found.the-variants.{At, Nowhere}
@@ -22,8 +25,8 @@ use Rattle.requests.proofs.Rising.{each-at}
 use Rattle.requests.proofs.RequestRules.{form-of, guard-request-range}
 use Rattle.requests.proofs.Placed.{region-requests}
 use Rattle.requests.proofs.RegionLaws.{Stands, stands-in, found-stands, nowhere-region, found-region, without-region, delivered-region}
-use Rattle.players.specs.declared.Step.the-variants.{Deliver, Split, Merge, RestartTablet}
-use Rattle.players.specs.Replies.{refusal, done, no-such-request}
+use Rattle.players.specs.declared.Step.the-variants.{Deliver, Split, Merge, RestartTablet, FindInterval}
+use Rattle.players.specs.Replies.{refusal, done, interval, no-such-request}
 use Rattle.players.specs.Rules.{State, Result, with-requests, with-store, check, settled, deliver, step}
 use Rattle.players.specs.Regions.{region}
 use Rattle.players.specs.Table.{players-words, last-word, request-words, stateOf, tableOf, valid}
@@ -226,3 +229,17 @@ module _ (st t : List ℕ) (ls : length st ≡ 1280) (l : length t ≡ players-w
                 left-is ex es (et ∙ ap (λ (u : Reply). settled-words k (r .abandoned) (u .a) (u .b) t) ey ∙ settled-table v (p .reply .a) (p .reply .b) (p .store))
                 ∙ sym (ap encoded (deliver-found v));
           }
+
+-- ---- 14 find a guard interval
+
+-- the tables stay, and the reply has what the store's search finds
+pub find-shifts : (st : List ℕ) → length st ≡ 1280 → (e : ℕ) → e < 256 → (x : Interval) → x ≡ interval-words e st → Shifts (λ s. step s (FindInterval e)) st (interval (x .first) (x .last)) st
+find-shifts st ls e h x is =
+    record {
+      shifted =
+          λ t l v.
+          let s = stateOf st t in
+          let d : x ≡ interval-of e (s .store) = is ∙ interval-right (last-word t) st ls (valid-store-words st t v) e h ∙ ap (interval-of e) (sym (store-of st t)) in
+          sym (same-tables st t (is-whole st t ls l) v _)
+          ∙ ap (λ (y : Interval). encoded (record { state = s; reply = interval (y .first) (y .last) })) d;
+    }

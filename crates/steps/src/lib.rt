@@ -56,6 +56,7 @@ pub(crate) fn apply(store: &mut [u32], players: &mut [u32], next: Step) -> Reply
         Step::Merge { entry } => store_steps::merge(store, entry),
         Step::RestartTablet { entry } => store_steps::restart_tablet(store, entry),
         Step::RestartPlayer { player } => leaving::restart_player(players, player),
+        Step::FindInterval { entry } => store_steps::find_interval(store, entry),
     }
 }
 

@@ -14,7 +14,7 @@ ghost use mathlib.Core.Path.{_≡_};
 ghost use lib.ListN.{length};
 ghost use Rattle.store.specs.Calls.{Refines};
 ghost use Rattle.players.specs.Rules.{step};
-ghost use Rattle.players.specs.declared.Step.the-variants.{Deliver, Split, Merge, RestartTablet};
+ghost use Rattle.players.specs.declared.Step.the-variants.{Deliver, Split, Merge, RestartTablet, FindInterval};
 ghost use Rattle.steps.specs.InnerStore.{Shifts, Acts, performed, settled-words};
 ghost use Rattle.players.specs.Table.{players-words};
 ghost use Rattle.store.specs.Table.{store-words};
@@ -41,6 +41,19 @@ pub(crate) fn restart_tablet(store: &mut [u32], entry: u8) -> Reply
     ensures { λ r. ⌜ Shifts (λ s. step s (RestartTablet entry)) (now (store .entry)) r (now (store .exit)) ⌝ }
 {
     store::unchecked::restart(store, entry)
+}
+
+// Step 14: the first and the last entry of the guard interval that holds the entry.
+pub(crate) fn find_interval(store: &[u32], entry: u8) -> Reply
+    requires { ⌜ length (now store) ≡ store-words ⌝ }
+    ensures { λ r. ⌜ Shifts (λ s. step s (FindInterval entry)) (now (store .entry)) r (now (store .entry)) ⌝ }
+{
+    let found = store::unchecked::find_interval(store, entry);
+    Reply {
+        code: codes::INTERVAL,
+        a: found.first,
+        b: found.last,
+    }
 }
 
 // What the store does with a request that is delivered. The reply's two numbers are the outcome.

@@ -2,7 +2,7 @@
 -- Assumes nothing.
 use mathlib.Core.Path.{refl}
 use borrow.Author.Needs.{needs}
-use Rattle.players.specs.declared.Step.the-variants.{Assign, Release, RequestGuard, Read, Write, Deliver, Respond, Abandon, Lose, Split, Merge, RestartTablet, RestartPlayer}
+use Rattle.players.specs.declared.Step.the-variants.{Assign, Release, RequestGuard, Read, Write, Deliver, Respond, Abandon, Lose, Split, Merge, RestartTablet, RestartPlayer, FindInterval}
 use Rattle.players.proofs.CallLaws.{wrong-length}
 use Rattle.steps.proofs.JoinLaws.{moves-refines, shifts-refines, acts-refines, both-long, store-wrong, players-wrong}
 use Rattle.steps.proofs.apply.Statement.{statement}
@@ -102,6 +102,12 @@ enum-known-next-13 c = search needs
 
 restart-player-requires : tie.Need-restart-player-requires
 restart-player-requires c κs = search needs
+
+enum-known-next-14 : tie.Need-enum-known-next-14
+enum-known-next-14 c = search needs
+
+find-interval-requires : tie.Need-find-interval-requires
+find-interval-requires c κs = search needs
 
 same-length : tie.Need-same-length
 same-length c = search needs
@@ -275,6 +281,18 @@ returns-15 c =
     let w = both-long (a .store .now) (a .players .now) (b .before .if1 .left) (b .if2 .left) in
     rw (n .next13 .given .1) (moves-refines (RestartPlayer (x .0)) (a .store .now) (a .players .now) w _ _ refl (e .restart-player .ensures))
 
+same-length-15 : tie.Need-same-length-15
+same-length-15 c = search needs
+
+returns-16 : tie.Need-returns-16
+returns-16 c =
+    let n = c .before .before .before in
+    let x = n .next14 .given .0 in
+    let b = n .before .before in
+    let a = b .before .before .before .before .args in
+    let w = both-long (a .store .now) (a .players .now) (b .before .if1 .left) (b .if2 .left) in
+    rw (n .next14 .given .1) (shifts-refines (FindInterval (x .0)) (a .store .now) (a .players .now) w _ _ (c .find-interval .ensures))
+
 pub apply-spec : {M : Type 1} → statement M
 apply-spec =
     tie.close
@@ -309,6 +327,8 @@ apply-spec =
     restart-tablet-requires
     enum-known-next-13
     restart-player-requires
+    enum-known-next-14
+    find-interval-requires
     same-length
     returns-3
     same-length-2
@@ -335,4 +355,6 @@ apply-spec =
     same-length-13
     returns-14
     same-length-14
-    returns-15)
+    returns-15
+    same-length-15
+    returns-16)
