@@ -4,25 +4,25 @@
 use mathlib.Core.Path.{_≡_, refl, sym, ap, _∙_, subst}
 use mathlib.Core.Logic.{_≢_, ⊎-elim}
 use mathlib.Core.Bool.{Bool, true, false, cond}
-use mathlib.Core.List.{List, [], _∷_}
+use mathlib.Core.List.{List, _∷_}
 use Prim.Native.Nat.{ℕ, zero, suc, _+_, _-_, _≤_, _<_}
 use native.Mathlib.Omega.{arith}
 use native.Mathlib.Nat.{zero-add}
 use lib.Dec.{T, leb, ltb, eqb}
-use lib.ListN.{length, getD, drop, replicate}
+use lib.ListN.{length, getD, drop}
 use lib.Seq.{getD-drop}
-use borrow.Author.Tests.{ne-eqb, eq-eqb, eqb-true, eqb-false, lt-ltb, le-ltb, ltb-true, ltb-false, leb-true, leb-false}
+use borrow.Author.Tests.{ne-eqb, eq-eqb, eqb-true, eqb-false, ltb-true, ltb-false, leb-true, leb-false}
 use Rattle.store.specs.Model.{serials, interval-first, interval-last}
-use Rattle.store.specs.Table.{part, guardAt, storeOf, valid}
+use Rattle.store.specs.Table.{part, storeOf, valid}
 use Rattle.store.specs.Calls.{reply, checked, guard-interval, interval-of, found-interval}
-use Rattle.store.specs.Words.{place, ends, span, found, found-in, interval-words}
+use Rattle.store.specs.Words.{place, ends, found, interval-words}
 use Rattle.store.specs.declared.Interval.{Interval}
 use Rattle.store.specs.declared.Reply.{Reply}
 use Rattle.store.proofs.Bools.{decide}
 use Rattle.store.proofs.Segments.{Stands, over, then, cut, place-zeros}
 use Rattle.store.proofs.SearchLaws.{ends-none, ends-before, found-guard}
 use Rattle.store.proofs.CallLaws.{passed}
-use Rattle.store.proofs.TableIntervals.{later-starts, later-guards, guards, length-starts, standing, starts-begin}
+use Rattle.store.proofs.TableIntervals.{later-starts, guards, standing, starts-begin}
 
 -- ---- the law
 

@@ -10,7 +10,7 @@ use lib.Dec.{eqb}
 use lib.ListN.{length, getD}
 use borrow.Author.Tests.{eqb-true}
 use Rattle.store.specs.Model.{Store, serials, bad-range, one-tablet, commits}
-use Rattle.store.specs.Table.{storeOf, tableOf, valid}
+use Rattle.store.specs.Table.{storeOf, valid}
 use Rattle.store.specs.Calls.{reply, Result, refusal, outcome, bad-serial, Done, done, encoded, called, made-fresh, install, read, commit, split, merge, restart, set-guard, write, guard-interval, found-interval}
 use Rattle.store.specs.Words.{tested, install-words, read-words, commit-words, split-words, merge-words, restart-words, interval-words}
 use Rattle.store.specs.declared.Range.{Range}

@@ -2,12 +2,12 @@
 -- Assumes nothing.
 use mathlib.Core.Path.{_≡_, refl, sym, ap, _∙_}
 use mathlib.Core.Logic.{⊎-elim}
-use mathlib.Core.Bool.{true, false, not, _&&_, and-false}
+use mathlib.Core.Bool.{true, false}
 use mathlib.Core.List.{List, [], _∷_}
-use Prim.Native.Nat.{ℕ, zero, suc, _+_, _-_, _≤_, _<_}
+use Prim.Native.Nat.{ℕ, _+_, _-_, _≤_, _<_}
 use native.Mathlib.Omega.{arith}
 use native.Mathlib.Nat.{zero-add}
-use lib.Dec.{leb, ltb, eqb}
+use lib.Dec.{leb, eqb}
 use lib.ListN.{length, getD, drop, length-drop}
 use lib.Seq.{drop-cons}
 use borrow.Author.Tests.{eq-eqb, ne-eqb, lt-ltb, le-ltb, leb-true, leb-false}
@@ -15,7 +15,7 @@ use Rattle.store.specs.Table.{part, seek, guardAt, storeOf}
 use Rattle.store.specs.Words.{place, ends, span, found, found-in}
 use Rattle.store.specs.declared.Span.{Span}
 use Rattle.store.proofs.Bools.{decide}
-use Rattle.store.proofs.Parts.{length-part}
+use Rattle.store.proofs.Parts.{length-part, part-at}
 use Rattle.store.proofs.Segments.{place-length}
 
 -- ---- where it ends
@@ -28,14 +28,12 @@ pub ends-before : (s : ℕ) → (s ≡ 0 → ⊥) → s - 1 ≡ ends s
 unfolding ends
 ends-before s z = rw (ne-eqb s 0 z)
 
--- at the interval with the ordinal k, if no later one begins at or before the entry
-pub found-here :
-    (ss ls : List ℕ) (from e k x : ℕ) → k + place (e + 1) (drop (k + 1) ss) ≡ from + place (e + 1) (drop (from + 1) ss)
-    → place (e + 1) (drop (k + 1) ss) ≡ 0 → x ≡ ends (getD ss (k + 1) 0) → span k (getD ls k 0) (getD ss k 0) x ≡ found ss ls from e
+-- at the interval with the ordinal k
+pub found-is :
+    (t : List ℕ) (from e k x : ℕ) → k ≡ from + place (e + 1) (drop (from + 1) (part 256 t)) → k < 256 → x ≡ ends (getD (part 256 t) (k + 1) 0)
+    → span k (getD t (512 + k) 0) (getD t (256 + k) 0) x ≡ found-in t from e
 unfolding found
-found-here ss ls from e k x here none last =
-    let i : from + place (e + 1) (drop (from + 1) ss) ≡ k = omega (arith, here, none) in
-    rw (i, last)
+found-is t from e k x here h last = rw (← here, last, part-at 256 t k h, part-at 512 t k h)
 
 -- from where it begins on, and within the table
 pub found-lies : (t : List ℕ) → length t ≡ 1280 → (k e : ℕ) → k < 256 → (x : Span) → x ≡ found-in t k e → (k ≤ x .ordinal) × (x .ordinal < 256)

@@ -1,6 +1,6 @@
 -- The intervals of a table that keeps the rules stand for the guards of its store.
 -- Assumes nothing.
-use mathlib.Core.Path.{_≡_, refl, sym, ap, _∙_, subst}
+use mathlib.Core.Path.{_≡_, sym, ap, _∙_, subst}
 use mathlib.Core.Bool.{_&&_}
 use mathlib.Core.List.{List, _∷_}
 use Prim.Native.Nat.{ℕ, _-_}
@@ -9,7 +9,7 @@ use lib.Dec.{T, leb, eqb, eqb→eq}
 use lib.ListN.{length, getD, drop, length-drop}
 use lib.Seq.{drop-cons}
 use borrow.Author.Tests.{lt-ltb}
-use Rattle.store.specs.Table.{part, guardAt, storeOf, rising, valid}
+use Rattle.store.specs.Table.{part, guardAt, rising, valid}
 use Rattle.store.proofs.Bools.{and-left, and-right}
 use Rattle.store.proofs.Parts.{length-part}
 use Rattle.store.proofs.Intervals.{Rising, rising-is, seek-before}

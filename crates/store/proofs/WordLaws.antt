@@ -6,10 +6,10 @@ use mathlib.Core.List.{List}
 use Prim.Native.Nat.{ℕ, _+_, _-_, _≤_, _<_}
 use native.Mathlib.Nat.{zero-add}
 use lib.Dec.{T, ltb, eqb}
-use lib.ListN.{length, getD, drop}
+use lib.ListN.{length, getD}
 use borrow.Author.Tests.{eq-eqb, ne-eqb, lt-ltb, eqb-true, eqb-false, ltb-true, leb-true}
 use Rattle.store.specs.Model.{Store, bad-range, one-tablet, guarded, commits}
-use Rattle.store.specs.Table.{part, storeOf, tableOf, valid}
+use Rattle.store.specs.Table.{storeOf, tableOf, valid}
 use Rattle.store.specs.Calls.{reply, Result, result, Done, done, encoded, Refines, install, read, commit, split, merge, restart}
 use Rattle.store.specs.Words.{tested, found-in, replaced, guarded-words, install-words, read-words, commit-words, split-words, merge-words, restart-words}
 use Rattle.store.specs.declared.Reply.{Reply}
