@@ -249,6 +249,21 @@ fn last_write() {
     assert_eq!(given, broken(Sentence::LastWrite, 9));
 }
 
+/// The ledger fed with a history.
+fn ledger_of(history: &[Event]) -> Ledger {
+    let mut ledger = Ledger::new();
+    for event in history {
+        ledger.feed(event.step, event.reply);
+    }
+    ledger
+}
+
+/// What stands in its order: which read or write, whether it is a write, and at which step it joined.
+fn placed(ledger: &Ledger) -> Vec<(OperationId, bool, usize)> {
+    let order = ledger.order.iter();
+    order.map(|p| (p.operation, p.is_write, p.step)).collect()
+}
+
 /// Document 02 §1, of step 14: "It is neither read nor write in the line." It stands between all steps of
 /// a write and a read, joins nothing, and no reply to it breaks a sentence.
 #[test]
@@ -265,17 +280,9 @@ fn a_found_interval_is_neither_read_nor_write() {
         find_interval(45),
     ]);
     let (history, state) = play(&steps, &NoFault);
-    let mut ledger = Ledger::new();
-    for event in &history {
-        ledger.feed(event.step, event.reply);
-    }
-    let placed: Vec<_> = ledger
-        .order
-        .iter()
-        .map(|p| (p.operation, p.is_write, p.step))
-        .collect();
+    let ledger = ledger_of(&history);
     assert_eq!(
-        placed,
+        placed(&ledger),
         [
             (OperationId::Serial(3), true, 7),
             (OperationId::Memory(11), false, 11),
@@ -317,17 +324,9 @@ fn ledger_of_the_worked_session() {
         respond(3),
     ]);
     let (history, state) = play(&steps, &NoFault);
-    let mut ledger = Ledger::new();
-    for event in &history {
-        ledger.feed(event.step, event.reply);
-    }
-    let placed: Vec<_> = ledger
-        .order
-        .iter()
-        .map(|p| (p.operation, p.is_write, p.step))
-        .collect();
+    let ledger = ledger_of(&history);
     assert_eq!(
-        placed,
+        placed(&ledger),
         [
             (OperationId::Serial(6), false, 10),
             (OperationId::Memory(13), false, 13),
