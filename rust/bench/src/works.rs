@@ -305,7 +305,7 @@ pub fn sessions() -> Vec<Work> {
         session: codec::session(steps),
         less_empty: false,
     };
-    let name = format!("session of {} records, all kinds", mixed.len());
+    let name = format!("session of {} records, kinds 1 to 13", mixed.len());
     vec![
         Work::new(
             "session of 5460 records, kinds 10 to 13",
