@@ -9,7 +9,7 @@ use Prim.Native.Nat.{ℕ, zero, suc, _+_, _-_, _/_, _^_, _<_, _≤_}
 use native.Mathlib.Omega.{arith}
 use lib.Dec.{T, ltb, eqb}
 use lib.ListN.{length, getD, drop}
-use Rattle.store.specs.Model.{unbroken, tablet-first, tablet-end, interval-first, interval-last}
+use Rattle.store.specs.Model.{serials, unbroken, tablet-first, tablet-end, interval-first, interval-last}
 use Rattle.store.specs.Table.{part as part-of, seek, guardAt, storeOf, coded, laid, listed, tableOf as store-table, at-most, rising, intervals, boundaries, valid as valid-store}
 use Rattle.store.specs.declared.Reply.{Reply}
 use Rattle.requests.specs.Region.{requestOf, requestsFrom, requestsOf, placed, fields-hold, outcome-holds, request-holds, words-fit, places-hold, valid as valid-requests}
@@ -195,7 +195,7 @@ split-words : Words (store-after guard-split) × Words (players-after guard-spli
 unfolding unbroken tablet-first tablet-end seek guardAt requestOf requestsFrom requestsOf fields-hold outcome-holds request-holds words-fit cell region at-most cached-holds cached-all placed places-hold valid-requests boundaries intervals rising coded laid valid valid-players valid-store stateOf storeOf part-of store-table tableOf listed state-after
 split-words = (tt, tt)
 
-split-fits : T (step-fits (FindInterval 6)) × T (step-fits (FindInterval 9))
+split-fits : T (step-fits (FindInterval 6)) × T (step-fits (FindInterval 10))
 unfolding map-of
 split-fits = (tt, tt)
 
@@ -203,11 +203,11 @@ split-fits = (tt, tt)
 abbrev reached : Done → List ℕ
 reached d = d .reply .code ∷ d .reply .a ∷ d .reply .b ∷ getD (d .players) 0 0 ∷ []
 
--- of entry 6, in the second tablet, and of entry 9, past the guard; then the last serial before, the boundary, and the guards of the entries 6, 8 and 9
+-- of entry 6, in the second tablet, and of entry 10, past the guard; then the last serial before and the boundary; then the guards of the entries 6 to 10
 reach-rows :
-    map reached (taken (FindInterval 6) (store-after guard-split) (players-after guard-split) ∷ taken (FindInterval 9) (store-after guard-split) (players-after guard-split) ∷ [])
-    ++ ((getD (players-after guard-split) 0 0 ∷ getD (store-after guard-split) 5 0 ∷ map (storeOf (store-after guard-split) .guard) (6 ∷ 8 ∷ 9 ∷ [])) ∷ [])
-    ≡ (9 ∷ 0 ∷ 8 ∷ 2 ∷ []) ∷ (9 ∷ 9 ∷ 255 ∷ 2 ∷ []) ∷ (2 ∷ 1 ∷ 2 ∷ 2 ∷ 0 ∷ []) ∷ []
+    map reached (taken (FindInterval 6) (store-after guard-split) (players-after guard-split) ∷ taken (FindInterval 10) (store-after guard-split) (players-after guard-split) ∷ [])
+    ++ ((getD (players-after guard-split) 0 0 ∷ getD (store-after guard-split) 5 0 ∷ []) ∷ map (storeOf (store-after guard-split) .guard) (6 ∷ 7 ∷ 8 ∷ 9 ∷ 10 ∷ []) ∷ [])
+    ≡ (9 ∷ 0 ∷ 8 ∷ 2 ∷ []) ∷ (9 ∷ 9 ∷ 255 ∷ 2 ∷ []) ∷ (2 ∷ 1 ∷ []) ∷ (2 ∷ 2 ∷ 2 ∷ 0 ∷ 0 ∷ []) ∷ []
 unfolding unbroken tablet-first tablet-end interval-first interval-last seek guardAt requestOf requestsFrom requestsOf fields-hold outcome-holds request-holds words-fit cell region at-most cached-holds cached-all placed places-hold valid-requests boundaries intervals rising coded laid valid valid-players valid-store stateOf storeOf part-of store-table tableOf listed state-after
 reach-rows = refl
 
@@ -218,40 +218,52 @@ module _ (f : Program) (k : Keeps f) where
   abbrev t : List ℕ
   t = players-after guard-split
 
-  second : f (FindInterval 6) st t ≡ taken (FindInterval 6) st t
-  second = k (FindInterval 6) st t (split-fits .0, split-words .0, split-words .1)
+  abbrev guard : ℕ → ℕ
+  guard = storeOf st .guard
 
-  past : f (FindInterval 9) st t ≡ taken (FindInterval 9) st t
-  past = k (FindInterval 9) st t (split-fits .1, split-words .0, split-words .1)
+  inside : f (FindInterval 6) st t ≡ taken (FindInterval 6) st t
+  inside = k (FindInterval 6) st t (split-fits .0, split-words .0, split-words .1)
+
+  behind : f (FindInterval 10) st t ≡ taken (FindInterval 10) st t
+  behind = k (FindInterval 10) st t (split-fits .1, split-words .0, split-words .1)
 
   -- an interval cut at the boundaries: none stands after its first entry, up to its last
   pub interval-cut : ((e i : ℕ) (st t : List ℕ) → Handed (FindInterval e) st t → f (FindInterval e) st t .reply .a < i → i ≤ f (FindInterval e) st t .reply .b → getD st i 0 ≡ 1 → ⊥) → ⊥
   interval-cut fault =
-      let a = ap (λ (d : Done). d .reply .a) second ∙ at 0 1 reach-rows in
-      let b = ap (λ (d : Done). d .reply .b) second ∙ at 0 2 reach-rows in
+      let a = ap (λ (d : Done). d .reply .a) inside ∙ at 0 1 reach-rows in
+      let b = ap (λ (d : Done). d .reply .b) inside ∙ at 0 2 reach-rows in
       fault 6 5 st t (split-fits .0, split-words .0, split-words .1) (omega arith) (omega arith) (at 2 1 reach-rows)
 
-  -- one too short at its first end: the entry before its first has the entry's guard
-  pub interval-begins-late : ((e : ℕ) (st t : List ℕ) → Handed (FindInterval e) st t → storeOf st .guard (f (FindInterval e) st t .reply .a - 1) ≡ storeOf st .guard e) → ⊥
+  -- one too short at its first end: where the entry before has the same guard, the entry before the first that is given has it too
+  pub interval-begins-late :
+      ((e : ℕ) (st t : List ℕ) → Handed (FindInterval e) st t → f (FindInterval e) st t .reply .code ≡ 9 → storeOf st .guard (e - 1) ≡ storeOf st .guard e
+      → storeOf st .guard (f (FindInterval e) st t .reply .a - 1) ≡ storeOf st .guard e) → ⊥
   interval-begins-late fault =
-      let a = ap (λ (d : Done). d .reply .a) past ∙ at 1 1 reach-rows in
-      let i : f (FindInterval 9) st t .reply .a - 1 ≡ 8 = omega arith in
-      let same = ap (storeOf st .guard) (sym i) ∙ fault 9 st t (split-fits .1, split-words .0, split-words .1) in
-      omega (arith, same, at 2 3 reach-rows, at 2 4 reach-rows)
+      let a = ap (λ (d : Done). d .reply .a) behind ∙ at 1 1 reach-rows in
+      let i : f (FindInterval 10) st t .reply .a - 1 ≡ 8 = omega arith in
+      let nine = ap (λ (d : Done). d .reply .code) behind ∙ at 1 0 reach-rows in
+      let same = ap guard (sym i) ∙ fault 10 st t (split-fits .1, split-words .0, split-words .1) nine (at 3 3 reach-rows ∙ sym (at 3 4 reach-rows)) in
+      omega (arith, same, at 3 2 reach-rows, at 3 4 reach-rows)
 
-  -- one too short at its last end: the entry after its last has the entry's guard
-  pub interval-ends-early : ((e : ℕ) (st t : List ℕ) → Handed (FindInterval e) st t → storeOf st .guard (f (FindInterval e) st t .reply .b + 1) ≡ storeOf st .guard e) → ⊥
+  -- one too short at its last end: where the entry after has the same guard, the entry after the last that is given has it too
+  pub interval-ends-early :
+      ((e : ℕ) (st t : List ℕ) → Handed (FindInterval e) st t → f (FindInterval e) st t .reply .code ≡ 9 → storeOf st .guard (e + 1) ≡ storeOf st .guard e
+      → storeOf st .guard (f (FindInterval e) st t .reply .b + 1) ≡ storeOf st .guard e) → ⊥
   interval-ends-early fault =
-      let b = ap (λ (d : Done). d .reply .b) second ∙ at 0 2 reach-rows in
+      let b = ap (λ (d : Done). d .reply .b) inside ∙ at 0 2 reach-rows in
       let i : f (FindInterval 6) st t .reply .b + 1 ≡ 9 = omega arith in
-      let same = ap (storeOf st .guard) (sym i) ∙ fault 6 st t (split-fits .0, split-words .0, split-words .1) in
-      omega (arith, same, at 2 2 reach-rows, at 2 4 reach-rows)
+      let nine = ap (λ (d : Done). d .reply .code) inside ∙ at 0 0 reach-rows in
+      let same = ap guard (sym i) ∙ fault 6 st t (split-fits .0, split-words .0, split-words .1) nine (at 3 1 reach-rows ∙ sym (at 3 0 reach-rows)) in
+      omega (arith, same, at 3 0 reach-rows, at 3 3 reach-rows)
 
-  -- a step 14 that takes a serial
-  pub interval-takes-serial : ((e : ℕ) (st t : List ℕ) → Handed (FindInterval e) st t → getD (f (FindInterval e) st t .players) 0 0 ≡ getD t 0 0 + 1) → ⊥
+  -- a step 14 that takes a serial where one is left
+  pub interval-takes-serial :
+      ((e : ℕ) (st t : List ℕ) → Handed (FindInterval e) st t → f (FindInterval e) st t .reply .code ≡ 9 → getD t 0 0 < serials → getD (f (FindInterval e) st t .players) 0 0 ≡ getD t 0 0 + 1) → ⊥
   interval-takes-serial fault =
-      let e = ap (λ (d : Done). getD (d .players) 0 0) second ∙ at 0 3 reach-rows in
-      omega (arith, e, fault 6 st t (split-fits .0, split-words .0, split-words .1), at 2 0 reach-rows)
+      let e = ap (λ (d : Done). getD (d .players) 0 0) inside ∙ at 0 3 reach-rows in
+      let nine = ap (λ (d : Done). d .reply .code) inside ∙ at 0 0 reach-rows in
+      let last = at 2 0 reach-rows in
+      omega (arith, e, fault 6 st t (split-fits .0, split-words .0, split-words .1) nine (omega (arith, last)), last)
 
   -- or that alters any word of a table, on whatever words
   pub interval-alters : (e : ℕ) (st t : List ℕ) → Handed (FindInterval e) st t → ((f (FindInterval e) st t .store ≡ st) × (f (FindInterval e) st t .players ≡ t) → ⊥) → ⊥

@@ -31,7 +31,7 @@ refused-case = refl
 -- a write, a release and a step of kind 14, with a byte after each, and three refusals: no byte, and kinds not in force
 pub decoded-case :
     map (λ s. decoded (decode s))
-    ((0x17 ∷ 5 ∷ 1 ∷ 45 ∷ 7 ∷ 0 ∷ 0 ∷ 1 ∷ 99 ∷ []) ∷ (0x0D ∷ 2 ∷ 40 ∷ 0 ∷ 1 ∷ 99 ∷ []) ∷ (0x05 ∷ 14 ∷ 45 ∷ 99 ∷ []) ∷ [] ∷ (0x01 ∷ 0xC8 ∷ []) ∷ (0x05 ∷ 15 ∷ 45 ∷ []) ∷ [])
+    ((0x17 ∷ 5 ∷ 1 ∷ 45 ∷ 7 ∷ 0 ∷ 0 ∷ 1 ∷ 99 ∷ []) ∷ (0x0D ∷ 2 ∷ 40 ∷ 0 ∷ 1 ∷ 99 ∷ []) ∷ (0x05 ∷ 14 ∷ 45 ∷ 99 ∷ []) ∷ [] ∷ (0x01 ∷ 0xC8 ∷ []) ∷ (0x05 ∷ 23 ∷ 45 ∷ []) ∷ [])
     ≡ (0 ∷ 8 ∷ 5 ∷ 1 ∷ 45 ∷ 0 ∷ 16777223 ∷ 0 ∷ []) ∷ (0 ∷ 5 ∷ 2 ∷ 0 ∷ 40 ∷ 256 ∷ 0 ∷ 0 ∷ []) ∷ (0 ∷ 3 ∷ 14 ∷ 0 ∷ 45 ∷ 0 ∷ 0 ∷ 0 ∷ []) ∷ (24 ∷ 0 ∷ 0 ∷ 0 ∷ 0 ∷ 0 ∷ 0 ∷ 0 ∷ []) ∷ (26 ∷ 0 ∷ 0 ∷ 0 ∷ 0 ∷ 0 ∷ 0 ∷ 0 ∷ []) ∷ (26 ∷ 0 ∷ 0 ∷ 0 ∷ 0 ∷ 0 ∷ 0 ∷ 0 ∷ []) ∷ []
 unfolding spread tested fields record-length fields-length map-of step-of
 decoded-case = refl

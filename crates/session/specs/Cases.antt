@@ -71,7 +71,7 @@ refused-first = mark ++ (0x03 ∷ 0x0D ∷ 0x08 ∷ 0x07 ∷ 0x04 ∷ 0x00 ∷ 0
 
 -- document 02 §1: a session of two steps of kind 14, and a kind that is not in force
 abbrev intervals-found : List ℕ
-intervals-found = mark ++ (0x05 ∷ 0x0E ∷ 0x07 ∷ 0x05 ∷ 0x0E ∷ 0xFF ∷ 0x05 ∷ 0x0F ∷ 0x07 ∷ [])
+intervals-found = mark ++ (0x05 ∷ 0x0E ∷ 0x07 ∷ 0x05 ∷ 0x0E ∷ 0xFF ∷ 0x05 ∷ 0x17 ∷ 0x07 ∷ [])
 
 -- ---- the rows
 
@@ -88,9 +88,9 @@ record-cases =
     ∷ case (record-bytes (0x05 ∷ 0x0E ∷ 0x07 ∷ [])) (done ∷ [])
     ∷ case (record-bytes (0x01 ∷ 0x0E ∷ [])) (refusal wrong-fields ∷ [])
     ∷ case (record-bytes (0x05 ∷ 0x0E ∷ [])) (refusal cut-short ∷ [])
-    -- "26 means a kind not in force": 15; 15 with the fields of 14, where 26 comes before 27; 0
-    ∷ case (record-bytes (0x01 ∷ 0x0F ∷ [])) (refusal unknown-kind ∷ [])
-    ∷ case (record-bytes (0x05 ∷ 0x0F ∷ 0x07 ∷ [])) (refusal unknown-kind ∷ [])
+    -- "26 means a kind not in force": 23; 23 with the fields of 14, where 26 comes before 27; 0
+    ∷ case (record-bytes (0x01 ∷ 0x17 ∷ [])) (refusal unknown-kind ∷ [])
+    ∷ case (record-bytes (0x05 ∷ 0x17 ∷ 0x07 ∷ [])) (refusal unknown-kind ∷ [])
     ∷ case (record-bytes (0x01 ∷ 0x00 ∷ [])) (refusal unknown-kind ∷ [])
     ∷ []
 

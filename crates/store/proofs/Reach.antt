@@ -18,7 +18,7 @@ use Rattle.store.specs.Calls.{reply, checked, guard-interval, interval-o
 use Rattle.store.specs.Words.{place, ends, found, interval-words}
 use Rattle.store.specs.declared.Interval.{Interval}
 use Rattle.store.specs.declared.Reply.{Reply}
-use Rattle.store.proofs.Bools.{decide}
+use Rattle.store.proofs.Bools.{decide, cond-elim}
 use Rattle.store.proofs.Segments.{Stands, over, then, cut, place-zeros}
 use Rattle.store.proofs.SearchLaws.{ends-none, ends-before, found-guard}
 use Rattle.store.proofs.CallLaws.{passed}
@@ -39,16 +39,11 @@ pub record LastOf (f : ℕ → ℕ) (e n x : ℕ) : Type 0 where
   pub same : (k : ℕ) → e ≤ k → k ≤ x → f k ≡ f e
   pub edge : x < e + n → f (suc x) ≢ f e
 
--- one of two numbers
-either : (P : ℕ → Type 0) (b : Bool) (x y : ℕ) → (b ≡ true → P x) → (b ≡ false → P y) → P (cond b x y)
-either P true x y p q = p refl
-either P false x y p q = q refl
-
 pub first-of : (f : ℕ → ℕ) (e : ℕ) → FirstOf f e (interval-first f e)
 unfolding interval-first
 first-of f zero = record { most = omega arith; same = λ k a b. ap f (omega arith); edge = λ k z. absurd (omega arith) }
 first-of f (suc e) =
-    either (FirstOf f (suc e)) (eqb (f e) (f (suc e))) (interval-first f e) (suc e)
+    cond-elim (FirstOf f (suc e)) (eqb (f e) (f (suc e))) (interval-first f e) (suc e)
     (λ t.
     let g = eqb-true (f e) (f (suc e)) t in
     let r = first-of f e in
@@ -64,7 +59,7 @@ pub last-of : (f : ℕ → ℕ) (e n : ℕ) → LastOf f e n (interval-last f e 
 unfolding interval-last
 last-of f e zero = record { least = omega arith; most = omega arith; same = λ k a b. ap f (omega arith); edge = λ z. absurd (omega arith) }
 last-of f e (suc n) =
-    either (LastOf f e (suc n)) (eqb (f (suc e)) (f e)) (interval-last f (suc e) n) e
+    cond-elim (LastOf f e (suc n)) (eqb (f (suc e)) (f e)) (interval-last f (suc e) n) e
     (λ t.
     let g = eqb-true (f (suc e)) (f e) t in
     let r = last-of f (suc e) n in

@@ -15,16 +15,13 @@ use Rattle.store.specs.Calls.{reply, Result, refusal, outcome, bad-seria
 use Rattle.store.specs.Words.{tested, install-words, read-words, commit-words, split-words, merge-words, restart-words, interval-words}
 use Rattle.store.specs.declared.Range.{Range}
 use Rattle.store.specs.declared.Interval.{Interval}
+use Rattle.store.proofs.Bools.{cond-both}
 use Rattle.store.proofs.Tables.{table-store}
 
 -- ---- by the rules: a refusal leaves the store
 
 record Stays (st : Store) (x : Result) : Type 0 where
   stays : 21 ≤ x .reply .code → x ≡ refusal (x .reply .code) st
-
-either : (st : Store) (b : Bool) (x y : Result) → Stays st x → Stays st y → Stays st (cond b x y)
-either st true x y h k = h
-either st false x y h k = k
 
 refuses : (n : ℕ) (st : Store) → Stays st (refusal n st)
 refuses n st = record { stays = λ h. refl }
@@ -34,28 +31,28 @@ does o st st′ = record { stays = λ h. absurd (omega arith) }
 
 module _ (st : Store) where
   install-stays : (r : Range) (g : ℕ) → Stays st (install r g st)
-  install-stays r g = either st (bad-range r) _ _ (refuses 28 st) (either st (one-tablet st (r .low) (r .high)) _ _ (does 1 st _) (does 2 st _))
+  install-stays r g = cond-both (Stays st) (bad-range r) _ _ (refuses 28 st) (cond-both (Stays st) (one-tablet st (r .low) (r .high)) _ _ (does 1 st _) (does 2 st _))
 
   read-stays : (e : ℕ) → Stays st (read e st)
   read-stays e = record { stays = λ h. absurd (omega arith) }
 
   commit-stays : (e v s g : ℕ) → Stays st (commit e v s g st)
-  commit-stays e v s g = either st (commits st e g) _ _ (does 1 st _) (does 2 st _)
+  commit-stays e v s g = cond-both (Stays st) (commits st e g) _ _ (does 1 st _) (does 2 st _)
 
   split-stays : (e : ℕ) → Stays st (split e st)
-  split-stays e = either st (eqb e 0) _ _ (refuses 28 st) (either st (eqb (st .boundary e) 1) _ _ (refuses 35 st) (does 0 st _))
+  split-stays e = cond-both (Stays st) (eqb e 0) _ _ (refuses 28 st) (cond-both (Stays st) (eqb (st .boundary e) 1) _ _ (refuses 35 st) (does 0 st _))
 
   merge-stays : (e : ℕ) → Stays st (merge e st)
-  merge-stays e = either st (eqb e 0) _ _ (refuses 28 st) (either st (eqb (st .boundary e) 0) _ _ (refuses 35 st) (does 0 st _))
+  merge-stays e = cond-both (Stays st) (eqb e 0) _ _ (refuses 28 st) (cond-both (Stays st) (eqb (st .boundary e) 0) _ _ (refuses 35 st) (does 0 st _))
 
   restart-stays : (e : ℕ) → Stays st (restart e st)
   restart-stays e = does 0 st _
 
   set-guard-stays : (r : Range) (s : ℕ) → Stays st (set-guard r s st)
-  set-guard-stays r s = either st (bad-serial s) _ _ (refuses 28 st) (install-stays r s)
+  set-guard-stays r s = cond-both (Stays st) (bad-serial s) _ _ (refuses 28 st) (install-stays r s)
 
   write-stays : (e v s g : ℕ) → Stays st (write e v s g st)
-  write-stays e v s g = either st (bad-serial s) _ _ (refuses 28 st) (commit-stays e v s g)
+  write-stays e v s g = cond-both (Stays st) (bad-serial s) _ _ (refuses 28 st) (commit-stays e v s g)
 
 -- ---- on any words: a refusal leaves the table
 
@@ -101,23 +98,15 @@ no-interval n = record { none = λ h. refl }
 an-interval : (g a b : ℕ) → NoInterval (guard-interval 0 g a b)
 an-interval g a b = record { none = λ h. absurd (omega arith) }
 
-or-interval : (b : Bool) (x y : Interval) → NoInterval x → NoInterval y → NoInterval (cond b x y)
-or-interval true x y h k = h
-or-interval false x y h k = k
-
 module _ (t : List ℕ) (e : ℕ) where
   pub find-interval-refused : NoInterval (found-interval e t)
-  find-interval-refused = or-interval (eqb (length t) 1280) _ _ (or-interval (valid serials t) _ _ (an-interval _ _ _) (no-interval 22)) (no-interval 21)
+  find-interval-refused = cond-both NoInterval (eqb (length t) 1280) _ _ (cond-both NoInterval (valid serials t) _ _ (an-interval _ _ _) (no-interval 22)) (no-interval 21)
 
   pub interval-words-refused : NoInterval (interval-words e t)
   unfolding interval-words
-  interval-words-refused = or-interval (eqb (length t) 1280) _ _ (an-interval _ _ _) (no-interval 21)
+  interval-words-refused = cond-both NoInterval (eqb (length t) 1280) _ _ (an-interval _ _ _) (no-interval 21)
 
 -- ---- the calls without the test of the rules, and making a table fresh
-
-choose : (t : List ℕ) (b : Bool) (x y : Done) → Keeps t x → Keeps t y → Keeps t (cond b x y)
-choose t true x y h k = h
-choose t false x y h k = k
 
 refused : (n : ℕ) (t : List ℕ) → Keeps t (done (reply n 0 0) t)
 refused n t = record { kept = λ h. refl }
@@ -127,28 +116,28 @@ replied a b t t′ = record { kept = λ h. absurd (omega arith) }
 
 module _ (t : List ℕ) where
   pub fresh-keeps : Keeps t (made-fresh t)
-  fresh-keeps = choose t (eqb (length t) 1280) _ _ (replied 0 0 t _) (refused 21 t)
+  fresh-keeps = cond-both (Keeps t) (eqb (length t) 1280) _ _ (replied 0 0 t _) (refused 21 t)
 
   pub install-words-keep : (r : Range) (g : ℕ) → Keeps t (tested (install-words r g) t)
   unfolding install-words
-  install-words-keep r g = choose t (eqb (length t) 1280) _ _ (choose t (bad-range r) _ _ (refused 28 t) (choose t (one-tablet (storeOf t) (r .low) (r .high)) _ _ (replied 1 0 t _) (replied 2 0 t _))) (refused 21 t)
+  install-words-keep r g = cond-both (Keeps t) (eqb (length t) 1280) _ _ (cond-both (Keeps t) (bad-range r) _ _ (refused 28 t) (cond-both (Keeps t) (one-tablet (storeOf t) (r .low) (r .high)) _ _ (replied 1 0 t _) (replied 2 0 t _))) (refused 21 t)
 
   pub read-words-keep : (e : ℕ) → Keeps t (tested (read-words e) t)
   unfolding read-words
-  read-words-keep e = choose t (eqb (length t) 1280) _ _ (replied _ _ t _) (refused 21 t)
+  read-words-keep e = cond-both (Keeps t) (eqb (length t) 1280) _ _ (replied _ _ t _) (refused 21 t)
 
   pub commit-words-keep : (e v s g : ℕ) → Keeps t (tested (commit-words e v s g) t)
   unfolding commit-words
-  commit-words-keep e v s g = choose t (eqb (length t) 1280) _ _ (choose t (commits (storeOf t) e g) _ _ (replied 1 0 t _) (replied 2 0 t _)) (refused 21 t)
+  commit-words-keep e v s g = cond-both (Keeps t) (eqb (length t) 1280) _ _ (cond-both (Keeps t) (commits (storeOf t) e g) _ _ (replied 1 0 t _) (replied 2 0 t _)) (refused 21 t)
 
   pub split-words-keep : (e : ℕ) → Keeps t (tested (split-words e) t)
   unfolding split-words
-  split-words-keep e = choose t (eqb (length t) 1280) _ _ (choose t (eqb e 0) _ _ (refused 28 t) (choose t (eqb (getD t e 0) 1) _ _ (refused 35 t) (replied 0 0 t _))) (refused 21 t)
+  split-words-keep e = cond-both (Keeps t) (eqb (length t) 1280) _ _ (cond-both (Keeps t) (eqb e 0) _ _ (refused 28 t) (cond-both (Keeps t) (eqb (getD t e 0) 1) _ _ (refused 35 t) (replied 0 0 t _))) (refused 21 t)
 
   pub merge-words-keep : (e : ℕ) → Keeps t (tested (merge-words e) t)
   unfolding merge-words
-  merge-words-keep e = choose t (eqb (length t) 1280) _ _ (choose t (eqb e 0) _ _ (refused 28 t) (choose t (eqb (getD t e 0) 0) _ _ (refused 35 t) (replied 0 0 t _))) (refused 21 t)
+  merge-words-keep e = cond-both (Keeps t) (eqb (length t) 1280) _ _ (cond-both (Keeps t) (eqb e 0) _ _ (refused 28 t) (cond-both (Keeps t) (eqb (getD t e 0) 0) _ _ (refused 35 t) (replied 0 0 t _))) (refused 21 t)
 
   pub restart-words-keep : (e : ℕ) → Keeps t (tested (restart-words e) t)
   unfolding restart-words
-  restart-words-keep e = choose t (eqb (length t) 1280) _ _ (replied 0 0 t _) (refused 21 t)
+  restart-words-keep e = cond-both (Keeps t) (eqb (length t) 1280) _ _ (replied 0 0 t _) (refused 21 t)

@@ -124,16 +124,16 @@ fn every_map_and_kind() {
 #[test]
 fn kinds_not_in_force() {
     let cases = [
-        ("05 0F 04", Refusal::RecordKind),
+        ("05 17 04", Refusal::RecordKind),
         ("05 00 04", Refusal::RecordKind),
-        ("01 0F", Refusal::RecordKind),
-        ("07 0F 01 04", Refusal::RecordKind),
+        ("01 17", Refusal::RecordKind),
+        ("07 17 01 04", Refusal::RecordKind),
         ("01 0E", Refusal::RecordFields),
         ("03 0E 04", Refusal::RecordFields),
         ("07 0E 01 04", Refusal::RecordFields),
         ("04 04", Refusal::RecordFields),
         ("05 0E", Refusal::RecordCut),
-        ("05 0F", Refusal::RecordCut),
+        ("05 17", Refusal::RecordCut),
         ("45 0E 04", Refusal::RecordBits),
     ];
     for (text, refusal) in cases {
