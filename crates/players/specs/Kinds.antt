@@ -7,18 +7,18 @@ use lib.ListN.{getD, drop}
 use lib.Dec.{eqb}
 use Rattle.store.specs.declared.Range.{Range}
 use Rattle.players.specs.declared.Step.{Step}
-use Rattle.players.specs.declared.Step.the-variants.{Assign, Release, RequestGuard, Read, Write, Deliver, Respond, Abandon, Lose, Split, Merge, RestartTablet, RestartPlayer, FindInterval}
+use Rattle.players.specs.declared.Step.the-variants.{Assign, Release, RequestGuard, Read, Write, Deliver, Respond, Abandon, Lose, Split, Merge, RestartTablet, RestartPlayer, FindInterval, Load}
 
 -- ---- maps
 
--- "Maps: 0F for kinds 1 and 3; 0D for 2; 07 for 4; 17 for 5; 21 for 6 to 9; 05 for 10 to 12; 03 for 13", and document 02 §1, "kind 14, map
--- 05"; from kind 0, which is none
+-- "Maps: 0F for kinds 1 and 3; 0D for 2; 07 for 4; 17 for 5; 21 for 6 to 9; 05 for 10 to 12; 03 for 13", and document 02: "kind 14, map
+-- 05" (§1), "Kind 15 (entry and value, map 15 hexadecimal)" (§2); from kind 0, which is none
 abbrev pub maps : List ℕ
-maps = 0x00 ∷ 0x0F ∷ 0x0D ∷ 0x0F ∷ 0x07 ∷ 0x17 ∷ 0x21 ∷ 0x21 ∷ 0x21 ∷ 0x21 ∷ 0x05 ∷ 0x05 ∷ 0x05 ∷ 0x03 ∷ 0x05 ∷ []
+maps = 0x00 ∷ 0x0F ∷ 0x0D ∷ 0x0F ∷ 0x07 ∷ 0x17 ∷ 0x21 ∷ 0x21 ∷ 0x21 ∷ 0x21 ∷ 0x05 ∷ 0x05 ∷ 0x05 ∷ 0x03 ∷ 0x05 ∷ 0x15 ∷ []
 
 -- the last of them
 abbrev pub last-kind : ℕ
-last-kind = 14
+last-kind = 15
 
 -- the map of a kind; 0, which is no kind's, where the number is none
 unfoldable pub map-of : ℕ → ℕ
@@ -50,6 +50,7 @@ kind-and-fields (Merge e) = 11 ∷ e ∷ []
 kind-and-fields (RestartTablet e) = 12 ∷ e ∷ []
 kind-and-fields (RestartPlayer p) = 13 ∷ p ∷ []
 kind-and-fields (FindInterval e) = 14 ∷ e ∷ []
+kind-and-fields (Load e v) = 15 ∷ e ∷ v ∷ []
 
 abbrev pub kind : Step → ℕ
 kind x = getD (kind-and-fields x) 0 0
@@ -76,7 +77,8 @@ step-of k vs =
     (cond (eqb k 11) (Merge a)
     (cond (eqb k 12) (RestartTablet a)
     (cond (eqb k 13) (RestartPlayer a)
-    (FindInterval a)))))))))))))
+    (cond (eqb k 14) (FindInterval a)
+    (Load a b))))))))))))))
 
 -- ---- the six numbers of a step
 

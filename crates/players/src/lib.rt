@@ -28,6 +28,7 @@ pub enum Step {
     RestartTablet { entry: u8 }, // 12
     RestartPlayer { player: u8 }, // 13
     FindInterval { entry: u8 }, // 14, how far the entry's guard reaches
+    Load { entry: u8, value: u32 }, // 15
 }
 
 // Whether both tables have their lengths.

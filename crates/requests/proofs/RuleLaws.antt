@@ -7,7 +7,7 @@ use native.Mathlib.Omega.{arith}
 use lib.Dec.{leb, eqb}
 use borrow.Author.Tests.{eq-eqb, ne-eqb, le-leb, lt-leb, lt-ltb, le-ltb}
 use Rattle.requests.specs.declared.Request.{Request}
-use Rattle.requests.specs.Region.{guard-request-holds, read-holds, write-holds, fields-hold, outcome-holds, request-holds}
+use Rattle.requests.specs.Region.{guard-request-holds, read-holds, write-holds, load-holds, fields-hold, outcome-holds, request-holds}
 
 module _ (r : Request) where
   -- ---- the fields, by kind
@@ -43,22 +43,42 @@ module _ (r : Request) where
     pub plain-write : r .high ≡ 0 → not (eqb (r .guard) 0) ≡ write-holds r
     plain-write h = rw (lt-ltb (r .low) 256 l, eq-eqb (r .high) 0 h)
 
-  module _ (b : Bool) where
-    pub kind-3 : r .kind ≡ 3 → b ≡ guard-request-holds r → b ≡ fields-hold r
-    unfolding fields-hold
-    kind-3 k e = rw (eq-eqb (r .kind) 3 k) e
+    pub ranged-load : (r .high ≡ 0 → ⊥) → false ≡ load-holds r
+    ranged-load h = rw (lt-ltb (r .low) 256 l, ne-eqb (r .high) 0 h)
 
-    pub kind-4 : r .kind ≡ 4 → b ≡ read-holds r → b ≡ fields-hold r
-    unfolding fields-hold
-    kind-4 k e = rw (ne-eqb (r .kind) 3 (λ z. omega arith), eq-eqb (r .kind) 4 k) e
+    pub guarded-load : r .high ≡ 0 → (r .guard ≡ 0 → ⊥) → false ≡ load-holds r
+    guarded-load h g = rw (lt-ltb (r .low) 256 l, eq-eqb (r .high) 0 h, ne-eqb (r .guard) 0 g)
 
-    pub kind-5 : r .kind ≡ 5 → b ≡ write-holds r → b ≡ fields-hold r
-    unfolding fields-hold
-    kind-5 k e = rw (ne-eqb (r .kind) 3 (λ z. omega arith), ne-eqb (r .kind) 4 (λ z. omega arith), eq-eqb (r .kind) 5 k) e
+    pub plain-load : r .high ≡ 0 → r .guard ≡ 0 → not (r .overlapped) ≡ load-holds r
+    plain-load h g = rw (lt-ltb (r .low) 256 l, eq-eqb (r .high) 0 h, eq-eqb (r .guard) 0 g)
 
-  pub kind-other : (r .kind ≡ 3 → ⊥) → (r .kind ≡ 4 → ⊥) → (r .kind ≡ 5 → ⊥) → false ≡ fields-hold r
-  unfolding fields-hold
-  kind-other h k m = rw (ne-eqb (r .kind) 3 h, ne-eqb (r .kind) 4 k, ne-eqb (r .kind) 5 m)
+  -- the loader's, and a player's by its kind
+  module _ (y : r .player ≡ 8) where
+    pub load-other : (r .kind ≡ 5 → ⊥) → false ≡ fields-hold r
+    unfolding fields-hold
+    load-other k = rw (eq-eqb (r .player) 8 y, ne-eqb (r .kind) 5 k)
+
+    pub load-5 : (b : Bool) → r .kind ≡ 5 → b ≡ load-holds r → b ≡ fields-hold r
+    unfolding fields-hold
+    load-5 b k e = rw (eq-eqb (r .player) 8 y, eq-eqb (r .kind) 5 k) e
+
+  module _ (y : r .player ≡ 8 → ⊥) where
+    module _ (b : Bool) where
+      pub kind-3 : r .kind ≡ 3 → b ≡ guard-request-holds r → b ≡ fields-hold r
+      unfolding fields-hold
+      kind-3 k e = rw (ne-eqb (r .player) 8 y, eq-eqb (r .kind) 3 k) e
+
+      pub kind-4 : r .kind ≡ 4 → b ≡ read-holds r → b ≡ fields-hold r
+      unfolding fields-hold
+      kind-4 k e = rw (ne-eqb (r .player) 8 y, ne-eqb (r .kind) 3 (λ z. omega arith), eq-eqb (r .kind) 4 k) e
+
+      pub kind-5 : r .kind ≡ 5 → b ≡ write-holds r → b ≡ fields-hold r
+      unfolding fields-hold
+      kind-5 k e = rw (ne-eqb (r .player) 8 y, ne-eqb (r .kind) 3 (λ z. omega arith), ne-eqb (r .kind) 4 (λ z. omega arith), eq-eqb (r .kind) 5 k) e
+
+    pub kind-other : (r .kind ≡ 3 → ⊥) → (r .kind ≡ 4 → ⊥) → (r .kind ≡ 5 → ⊥) → false ≡ fields-hold r
+    unfolding fields-hold
+    kind-other h k m = rw (ne-eqb (r .player) 8 y, ne-eqb (r .kind) 3 h, ne-eqb (r .kind) 4 k, ne-eqb (r .kind) 5 m)
 
   module _ (n : ℕ) where
     -- ---- the outcome
@@ -103,20 +123,20 @@ module _ (r : Request) where
     high-serial h = rw (lt-leb (r .serial) n h)
 
     module _ (s : r .serial ≤ n) where
-      pub high-player : 7 < r .player → false ≡ request-holds n r
+      pub high-player : 8 < r .player → false ≡ request-holds n r
       unfolding request-holds
-      high-player h = rw (le-leb (r .serial) n s, lt-leb (r .player) 7 h)
+      high-player h = rw (le-leb (r .serial) n s, lt-leb (r .player) 8 h)
 
-      module _ (p : r .player ≤ 7) where
+      module _ (p : r .player ≤ 8) where
         pub late-guard : r .serial ≤ r .guard → false ≡ request-holds n r
         unfolding request-holds
-        late-guard h = rw (le-leb (r .serial) n s, le-leb (r .player) 7 p, le-ltb (r .guard) (r .serial) h)
+        late-guard h = rw (le-leb (r .serial) n s, le-leb (r .player) 8 p, le-ltb (r .guard) (r .serial) h)
 
         module _ (g : r .guard < r .serial) where
           pub bad-fields : fields-hold r ≡ false → false ≡ request-holds n r
           unfolding request-holds
-          bad-fields f = rw (le-leb (r .serial) n s, le-leb (r .player) 7 p, lt-ltb (r .guard) (r .serial) g, f)
+          bad-fields f = rw (le-leb (r .serial) n s, le-leb (r .player) 8 p, lt-ltb (r .guard) (r .serial) g, f)
 
           pub good-fields : (b : Bool) → fields-hold r ≡ true → b ≡ outcome-holds n r → b ≡ request-holds n r
           unfolding request-holds
-          good-fields b f e = rw (le-leb (r .serial) n s, le-leb (r .player) 7 p, lt-ltb (r .guard) (r .serial) g, f) e
+          good-fields b f e = rw (le-leb (r .serial) n s, le-leb (r .player) 8 p, lt-ltb (r .guard) (r .serial) g, f) e

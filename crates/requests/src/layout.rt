@@ -30,3 +30,6 @@ pub const ABANDONED: usize = 9;
 pub const FIRST: usize = 10;
 
 pub const SECOND: usize = 11;
+
+// The player of a load.
+pub const LOADER: u8 = 8;

@@ -14,13 +14,6 @@ ghost use Rattle.requests.specs.Model.{by};
 ghost use Rattle.requests.specs.Region.{requestAt, bit, wordsOf, region-words};
 ghost use Rattle.requests.specs.Calls.{over, closed, crossed, carried, carry};
 
-// A word cut to a player.
-fn player_of(x: u32) -> u8
-    ensures { λ r. ⌜ r ≡ x % 8 ⌝ }
-{
-    (x % 8) as u8
-}
-
 // A word cut to 8 bits.
 fn byte(x: u32) -> u8
     ensures { λ r. ⌜ r ≡ x % 256 ⌝ }
@@ -50,7 +43,7 @@ pub(crate) fn request_at(region: &[u32], k: usize) -> Request
     let b = k * layout::SIZE;
     Request {
         serial: region[b],
-        player: player_of(region[b + layout::PLAYER]),
+        player: byte(region[b + layout::PLAYER]),
         kind: byte(region[b + layout::KIND]),
         low: byte(region[b + layout::LOW]),
         high: half(region[b + layout::HIGH]),

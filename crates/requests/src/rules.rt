@@ -7,7 +7,7 @@ use store::words;
 ghost use mathlib.Core.Path.{_≡_};
 ghost use Prim.Native.Nat.{_*_, _<_};
 ghost use lib.ListN.{length, drop};
-ghost use Rattle.requests.specs.Region.{guard-request-holds, read-holds, write-holds, fields-hold, outcome-holds, request-holds, words-fit, places-hold, region-words};
+ghost use Rattle.requests.specs.Region.{guard-request-holds, read-holds, write-holds, load-holds, fields-hold, outcome-holds, request-holds, words-fit, places-hold, region-words};
 
 // Whether the fields of a guard request keep the rules.
 fn guard_request_holds(r: Request) -> bool
@@ -48,10 +48,29 @@ fn write_holds(r: Request) -> bool
     r.guard != 0
 }
 
-// Whether the fields that a request's kind has, and those that it lacks, keep the rules.
+// Whether the fields of a load keep the rules.
+fn load_holds(r: Request) -> bool
+    ensures { λ b. ⌜ b ≡ load-holds r ⌝ }
+{
+    if r.high != 0 {
+        return false;
+    }
+    if r.guard != 0 {
+        return false;
+    }
+    !r.overlapped
+}
+
+// Whether the fields that a request's kind has, and those that it lacks, keep the rules. The loader's is a write.
 fn fields_hold(r: Request) -> bool
     ensures { λ b. ⌜ b ≡ fields-hold r ⌝ }
 {
+    if r.player == layout::LOADER {
+        if r.kind != kinds::WRITE {
+            return false;
+        }
+        return load_holds(r);
+    }
     if r.kind == kinds::GUARD_REQUEST {
         return guard_request_holds(r);
     }
@@ -96,7 +115,7 @@ fn request_holds(r: Request, last: u32) -> bool
     if r.serial > last {
         return false;
     }
-    if r.player > 7 {
+    if r.player > layout::LOADER {
         return false;
     }
     if r.guard >= r.serial {
@@ -114,7 +133,7 @@ fn words_fit(region: &[u32], k: usize) -> bool
     ensures { λ b. ⌜ b ≡ words-fit (drop (k * 12) (now (region .entry))) ⌝ }
 {
     let b = k * layout::SIZE;
-    if region[b + layout::PLAYER] > 7 {
+    if region[b + layout::PLAYER] > layout::LOADER as u32 {
         return false;
     }
     if region[b + layout::KIND] > 255 {

@@ -11,7 +11,7 @@ use lib.ListN.{length, getD, set, take, length-set}
 use lib.Seq.{ext-getD, getD-set-same, getD-set-other}
 use mathlib.Core.Logic.{⊎-elim}
 use borrow.Author.Tests.{eq-eqb, ne-eqb, le-leb, lt-leb, lt-ltb, le-ltb, eqb-true, eqb-false}
-use Rattle.store.specs.Model.{Store, serials, put, unbroken, tablet-first, tablet-end, committed, with-boundary}
+use Rattle.store.specs.Model.{Store, serials, put, unbroken, tablet-first, tablet-end, committed, with-boundary, barred}
 use Rattle.store.specs.Table.{part, storeOf, listed, tableOf, valid}
 use Rattle.store.specs.Words.{tested, found-in, guarded-words, install-words, read-words, commit-words, split-words, merge-words, restart-words, interval-words}
 use Rattle.store.specs.Calls.{reply, guard-interval, Result, result, refusal, bad-serial, Done, done, encoded, checked, called, Refines}
@@ -118,19 +118,19 @@ module _ (t : List ℕ) (w : length t ≡ 1280) where
     read-is = rw (eq-eqb (length t) 1280 w)
 
     module _ (v s g : ℕ) where
-      pub commit-zero : g ≡ 0 → done (reply 0 2 0) t ≡ tested (commit-words e v s g) t
+      pub commit-barred : g ≡ barred → done (reply 0 2 0) t ≡ tested (commit-words e v s g) t
       unfolding commit-words
-      commit-zero z = rw (eq-eqb (length t) 1280 w, eq-eqb g 0 z)
+      commit-barred z = rw (eq-eqb (length t) 1280 w, eq-eqb g barred z)
 
       -- the guard, as the search finds it
       module _ (x : ℕ) (ex : x ≡ found-in t 0 e .guard) where
-        pub commit-other : (g ≡ 0 → ⊥) → (x ≡ g → ⊥) → done (reply 0 2 0) t ≡ tested (commit-words e v s g) t
+        pub commit-other : (g ≡ barred → ⊥) → (x ≡ g → ⊥) → done (reply 0 2 0) t ≡ tested (commit-words e v s g) t
         unfolding commit-words
-        commit-other z ne = rw (eq-eqb (length t) 1280 w, ← found-guard t w e h, ← ex, ne-eqb g 0 z, ne-eqb g x (λ y. ne (sym y)))
+        commit-other z ne = rw (eq-eqb (length t) 1280 w, ← found-guard t w e h, ← ex, ne-eqb g barred z, ne-eqb g x (λ y. ne (sym y)))
 
-        pub commit-same : (g ≡ 0 → ⊥) → x ≡ g → done (reply 0 1 0) (set (set t (768 + e) s) (1024 + e) v) ≡ tested (commit-words e v s g) t
+        pub commit-same : (g ≡ barred → ⊥) → x ≡ g → done (reply 0 1 0) (set (set t (768 + e) s) (1024 + e) v) ≡ tested (commit-words e v s g) t
         unfolding commit-words
-        commit-same z eg = rw (eq-eqb (length t) 1280 w, ← found-guard t w e h, ← ex, ne-eqb g 0 z, eq-eqb g x (sym eg))
+        commit-same z eg = rw (eq-eqb (length t) 1280 w, ← found-guard t w e h, ← ex, ne-eqb g barred z, eq-eqb g x (sym eg))
 
     pub split-first : e ≡ 0 → done (reply 28 0 0) t ≡ tested (split-words e) t
     unfolding split-words
@@ -156,7 +156,7 @@ module _ (t : List ℕ) (w : length t ≡ 1280) where
     unfolding merge-words
     merge-set z x = rw (eq-eqb (length t) 1280 w, ne-eqb e 0 z, ne-eqb (getD t e 0) 0 x)
 
-    pub restart-is : (lo hi : ℕ) → lo ≡ tablet-first bounds e → hi ≡ tablet-end bounds e (255 - e) → (t′ : List ℕ) → t′ ≡ guarded-words lo hi 0 t → done (reply 0 0 0) t′ ≡ tested (restart-words e) t
+    pub restart-is : (lo hi : ℕ) → lo ≡ tablet-first bounds e → hi ≡ tablet-end bounds e (255 - e) → (t′ : List ℕ) → t′ ≡ guarded-words lo hi barred t → done (reply 0 0 0) t′ ≡ tested (restart-words e) t
     unfolding restart-words storeOf part
     restart-is lo hi el eh t′ s = rw (eq-eqb (length t) 1280 w, s, el, eh)
 

@@ -10,9 +10,10 @@ use native.Mathlib.Nat.{zero-add, suc-add}
 use lib.Dec.{T, leb, ltb, eqb}
 use lib.ListN.{length, getD, take, drop, replicate, length-replicate}
 use borrow.Author.Tests.{ne-eqb, le-leb, lt-leb, lt-ltb, le-ltb, leb-true, leb-false, ltb-true, ltb-false}
-use Rattle.store.specs.Table.{seek, guardAt, listed, coded, start, label, intervals}
+use Rattle.store.specs.Table.{seek, guardAt, listed, coded, start, label, guard-holds, intervals}
 use Rattle.store.specs.Words.{place}
 use Rattle.store.proofs.Bools.{decide, and-both}
+use Rattle.store.proofs.GuardRules.{issued-holds}
 use Rattle.store.proofs.Lists.{listed-same}
 use Rattle.store.proofs.Intervals.{Rising, end, next, is-rising, seek-zeros, seek-before, seek-past}
 use Rattle.store.proofs.Dense.{dense-guards, coded-dense}
@@ -44,7 +45,7 @@ rising-stands {e = e} {g} f b (next {s = s} {l} {ss} {ls} i j c d r) h =
 stands-rising : {f : ℕ → ℕ} {e : ℕ} {ss ls : List ℕ} (n : ℕ) → ((x : ℕ) → f x ≤ n) → Stands f e ss ls → Rising n e (f e) ss ls
 stands-rising n b (over m h p q) = end m p q
 stands-rising {f} n b (then {e} {s} {l} {ss} {ls} i j c d h r) =
-    next i j (λ q. d (sym c ∙ q)) (rw c (b s)) (subst (λ (g : ℕ). Rising n s g ss ls) (sym c) (stands-rising n b r))
+    next i j (λ q. d (sym c ∙ q)) (rw c (issued-holds n (f s) (b s))) (subst (λ (g : ℕ). Rising n s g ss ls) (sym c) (stands-rising n b r))
 
 stands-seek : {f : ℕ → ℕ} {e : ℕ} {ss ls : List ℕ} → Stands f e ss ls → (x : ℕ) → e ≤ x → x < 256 → seek x (f e) ss ls ≡ f x
 stands-seek {f} {e} (over m h p q) x i j = rw (p, q) (seek-zeros x (f e) m ∙ sym (h x i j))
@@ -59,7 +60,7 @@ stands-seek {f} (then {e} {s} {l} {ss} {ls} a b c d h r) x i j =
 pub stands-coded : (n : ℕ) (f : ℕ → ℕ) (ss ls : List ℕ) → length ss ≡ 255 → length ls ≡ 255 → ((x : ℕ) → f x ≤ n) → Stands f 0 ss ls → (coded start (listed f 0 256) ≡ 0 ∷ ss) × (coded label (listed f 0 256) ≡ f 0 ∷ ls)
 unfolding intervals guardAt
 stands-coded n f ss ls hs hl b r =
-    let iv : T (intervals n (0 ∷ ss) (f 0 ∷ ls)) = and-both (leb (f 0) n) _ (rw (le-leb (f 0) n (b 0)) tt) (is-rising (stands-rising n b r)) in
+    let iv : T (intervals n (0 ∷ ss) (f 0 ∷ ls)) = and-both (guard-holds n (f 0)) _ (issued-holds n (f 0) (b 0)) (is-rising (stands-rising n b r)) in
     let d = dense-guards n (0 ∷ ss) (f 0 ∷ ls) (ap suc (hs ∙ sym hl)) iv in
     let e : listed (guardAt (0 ∷ ss) (f 0 ∷ ls)) 0 256 ≡ listed f 0 256 =
     listed-same _ _ 0 256 (λ k h. rw (lt-ltb (0 + k) 256 (omega arith)) (stands-seek r (0 + k) (omega arith) (omega arith))) in

@@ -5,11 +5,11 @@ use mathlib.Core.Bool.{_&&_}
 use mathlib.Core.List.{List, _∷_}
 use Prim.Native.Nat.{ℕ, _-_}
 use native.Mathlib.Omega.{arith}
-use lib.Dec.{T, leb, eqb, eqb→eq}
+use lib.Dec.{T, eqb, eqb→eq}
 use lib.ListN.{length, getD, drop, length-drop}
 use lib.Seq.{drop-cons}
 use borrow.Author.Tests.{lt-ltb}
-use Rattle.store.specs.Table.{part, guardAt, rising, valid}
+use Rattle.store.specs.Table.{part, guardAt, guard-holds, rising, valid}
 use Rattle.store.proofs.Bools.{and-left, and-right}
 use Rattle.store.proofs.Parts.{length-part}
 use Rattle.store.proofs.Intervals.{Rising, rising-is, seek-before}
@@ -45,11 +45,11 @@ module _ (t : List ℕ) (w : length t ≡ 1280) where
     abbrev one : ℕ
     one = getD (part 512 t) 0 0
 
-    rules : T (eqb (getD (part 256 t) 0 0) 0 && (leb one n && rising n 0 one later-starts later-guards))
+    rules : T (eqb (getD (part 256 t) 0 0) 0 && (guard-holds n one && rising n 0 one later-starts later-guards))
     rules = subst T (intervals-begins n (part 256 t) (part 512 t) (omega (arith, wss)) (omega (arith, wls))) (valid-intervals n t w v)
 
     rise : Rising n 0 one later-starts later-guards
-    rise = rising-is n 0 one later-starts later-guards (length-starts ∙ sym length-guards) (and-right (leb one n) _ (and-right (eqb (getD (part 256 t) 0 0) 0) _ rules))
+    rise = rising-is n 0 one later-starts later-guards (length-starts ∙ sym length-guards) (and-right (guard-holds n one) _ (and-right (eqb (getD (part 256 t) 0 0) 0) _ rules))
 
     first-guard : guards 0 ≡ one
     unfolding guardAt

@@ -8,7 +8,7 @@ use native.Mathlib.Nat.{zero-add}
 use lib.Dec.{T, ltb, eqb}
 use lib.ListN.{length, getD}
 use borrow.Author.Tests.{eq-eqb, ne-eqb, lt-ltb, eqb-true, eqb-false, ltb-true, leb-true}
-use Rattle.store.specs.Model.{Store, bad-range, one-tablet, guarded, commits}
+use Rattle.store.specs.Model.{Store, bad-range, one-tablet, guarded, commits, barred}
 use Rattle.store.specs.Table.{storeOf, tableOf, valid}
 use Rattle.store.specs.Calls.{reply, Result, result, Done, done, encoded, Refines, install, read, commit, split, merge, restart}
 use Rattle.store.specs.Words.{tested, found-in, replaced, guarded-words, install-words, read-words, commit-words, split-words, merge-words, restart-words}
@@ -115,7 +115,7 @@ module _ (n : ℕ) (t : List ℕ) (w : length t ≡ 1280) (v : T (valid n t)) wh
     unfolding restart-words
     restart-right =
         let o = tablet-range (storeOf t .boundary) e _ _ h refl refl in
-        ap (done (reply 0 0 0)) (guarded-words-right _ _ 0 (o .0) (o .1))
+        ap (done (reply 0 0 0)) (guarded-words-right _ _ barred (o .0) (o .1))
 
 -- ---- what a crate above needs: on a table that keeps the rules each call does what Calls says
 

@@ -18,3 +18,6 @@ pub const LAST_ENTRY: u32 = 255;
 
 // The last serial.
 pub const SERIALS: u32 = 4_000_000;
+
+// The guard of a tablet that was restarted: no write carries it.
+pub const BARRED: u32 = 4_294_967_295;
