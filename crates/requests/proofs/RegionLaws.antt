@@ -20,7 +20,7 @@ use Rattle.requests.specs.Region.{requestOf, requestsFrom, whole, reques
 use Rattle.requests.specs.Calls.{found-from, found, scanned, full, over, with-request, with-abandoned, with-delivered, closed, without, overlapped-from, sought, crossed, pass, passed, remains, give-up, remaining, restarted}
 use Rattle.requests.proofs.Basics.{decide, cond-elim}
 use Rattle.requests.proofs.Rising.{Each, In, here, there, fewer-kept}
-use Rattle.requests.proofs.RequestRules.{Fits, request-fits}
+use Rattle.requests.proofs.RequestRules.{request-fits}
 use Rattle.requests.proofs.WordLaws.{over-skip, over-front, drop-zeros, set-from, sets-from}
 use Rattle.requests.proofs.Placed.{Requests, request-back, length-placed, requests-region}
 
@@ -103,30 +103,6 @@ module _ {A : Type 0} (f : Fit) (n : ℕ) (x : A) (go : Request → A) where
         nowhere-cond i r rs (serial-is n r) (fits f r) e
         (λ s. let y = eqb-true (r .serial) n s in find-above (r .serial) rs (omega (arith, y)) (t .2))
         (λ d. find-nowhere (i + 1) (r .serial) rs (t .2) d)
-
--- what is found fits its fields, in any region
-abbrev AllFit : List Request → Type 0
-AllFit [] = Unit {0}
-AllFit (r ∷ rs) = Fits r × AllFit rs
-
-request-fits-any : (w : List ℕ) → Fits (requestOf w)
-unfolding requestOf
-request-fits-any w = record { player = omega arith; kind = omega arith; low = omega arith; high = omega arith }
-
-all-fit : (m : ℕ) (w : List ℕ) → AllFit (requestsFrom m w)
-unfolding requestsFrom
-all-fit zero w = tt
-all-fit (suc m) w =
-    cond-elim AllFit (eqb (getD w 0 0) 0) [] (requestOf w ∷ requestsFrom m (drop 12 w)) (λ _. tt) (λ _. (request-fits-any w, all-fit m (drop 12 w)))
-
-stands-fit : {r : Request} {k : ℕ} {rs : List Request} → AllFit rs → Stands r k rs → Fits r
-stands-fit f first = f .0
-stands-fit f (later s) = stands-fit (f .1) s
-
-pub found-fits : (f : Fit) (n k : ℕ) (r : Request) (w : List ℕ) → At k r ≡ found f n w → Fits r
-unfolding requestsOf
-found-fits f n k r w e =
-    stands-fit (cond-elim AllFit (whole w) (requestsFrom places w) [] (λ _. all-fit places w) (λ _. tt)) (lies f n 0 k r (requestsOf w) e .stands)
 
 -- ---- words of places
 
