@@ -27,41 +27,41 @@ mul-t4 c = search needs
 shared-slice-read-t6 : tie.Need-shared-slice-read-t6
 shared-slice-read-t6 c = search needs
 
-add-player-of : tie.Need-add-player-of
-add-player-of c = word (c .before .before) 1 tt .index
-
-mul-player-of : tie.Need-mul-player-of
-mul-player-of c = word (c .before .before) 1 tt .offset
-
-shared-slice-read-player-of : tie.Need-shared-slice-read-player-of
-shared-slice-read-player-of c = word (c .before .before .before) 1 tt .inside
-
-player-of-requires : tie.Need-player-of-requires
-player-of-requires c κs = tt
-
 add-byte : tie.Need-add-byte
-add-byte c = word (c .before .before .before .before) 2 tt .index
+add-byte c = word (c .before .before) 1 tt .index
 
 mul-byte : tie.Need-mul-byte
-mul-byte c = word (c .before .before .before .before) 2 tt .offset
+mul-byte c = word (c .before .before) 1 tt .offset
 
 shared-slice-read-byte : tie.Need-shared-slice-read-byte
-shared-slice-read-byte c = word (c .before .before .before .before .before) 2 tt .inside
+shared-slice-read-byte c = word (c .before .before .before) 1 tt .inside
 
 byte-requires : tie.Need-byte-requires
 byte-requires c κs = tt
 
 add-byte-2 : tie.Need-add-byte-2
-add-byte-2 c = word (c .before .before .before .before .before .before) 3 tt .index
+add-byte-2 c = word (c .before .before .before .before) 2 tt .index
 
 mul-byte-2 : tie.Need-mul-byte-2
-mul-byte-2 c = word (c .before .before .before .before .before .before) 3 tt .offset
+mul-byte-2 c = word (c .before .before .before .before) 2 tt .offset
 
 shared-slice-read-byte-2 : tie.Need-shared-slice-read-byte-2
-shared-slice-read-byte-2 c = word (c .before .before .before .before .before .before .before) 3 tt .inside
+shared-slice-read-byte-2 c = word (c .before .before .before .before .before) 2 tt .inside
 
 byte-requires-2 : tie.Need-byte-requires-2
 byte-requires-2 c κs = tt
+
+add-byte-3 : tie.Need-add-byte-3
+add-byte-3 c = word (c .before .before .before .before .before .before) 3 tt .index
+
+mul-byte-3 : tie.Need-mul-byte-3
+mul-byte-3 c = word (c .before .before .before .before .before .before) 3 tt .offset
+
+shared-slice-read-byte-3 : tie.Need-shared-slice-read-byte-3
+shared-slice-read-byte-3 c = word (c .before .before .before .before .before .before .before) 3 tt .inside
+
+byte-requires-3 : tie.Need-byte-requires-3
+byte-requires-3 c κs = tt
 
 add-half : tie.Need-add-half
 add-half c = word (c .before .before .before .before .before .before .before .before) 4 tt .index
@@ -152,7 +152,7 @@ returns c =
     let f = c .before .before in
     let h = f .before .before .before .before .before .before .before .before in
     let a = from-half h .args in
-    read-place (a .region .now) (a .k) _ _ _ _ _ _ _ (h .before .before .before .before .before .before .player-of .ensures) (h .before .before .before .before .byte .ensures) (h .before .before .byte2 .ensures) (h .half .ensures) (f .before .before .before .before .flag .ensures) (f .before .before .flag2 .ensures) (f .flag3 .ensures)
+    read-place (a .region .now) (a .k) _ _ _ _ _ _ _ (h .before .before .before .before .before .before .byte .ensures) (h .before .before .before .before .byte2 .ensures) (h .before .before .byte3 .ensures) (h .half .ensures) (f .before .before .before .before .flag .ensures) (f .before .before .flag2 .ensures) (f .flag3 .ensures)
 
 pub request-at-spec : {M : Type 1} → statement M
 request-at-spec =
@@ -161,10 +161,6 @@ request-at-spec =
     mul-b
     mul-t4
     shared-slice-read-t6
-    add-player-of
-    mul-player-of
-    shared-slice-read-player-of
-    player-of-requires
     add-byte
     mul-byte
     shared-slice-read-byte
@@ -173,6 +169,10 @@ request-at-spec =
     mul-byte-2
     shared-slice-read-byte-2
     byte-requires-2
+    add-byte-3
+    mul-byte-3
+    shared-slice-read-byte-3
+    byte-requires-3
     add-half
     mul-half
     shared-slice-read-half

@@ -18,6 +18,9 @@ mul-if1 c = search needs
 shared-slice-read-if1 : tie.Need-shared-slice-read-if1
 shared-slice-read-if1 c = search needs
 
+cast-if1 : tie.Need-cast-if1
+cast-if1 c = search needs
+
 returns : tie.Need-returns
 returns c =
     let a = c .before .before .args in
@@ -115,6 +118,7 @@ words-fit-spec =
     add-if1
     mul-if1
     shared-slice-read-if1
+    cast-if1
     returns
     add-if2
     mul-if2
