@@ -37,14 +37,16 @@ pub const RESTART_PLAYER: u8 = 13;
 
 pub const FIND_INTERVAL: u8 = 14;
 
+pub const LOAD: u8 = 15;
+
 // The last of them.
-const LAST: u8 = FIND_INTERVAL;
+const LAST: u8 = LOAD;
 
 // The map of a number that is no kind in force.
 pub(crate) const NO_MAP: u8 = 0x00;
 
 // The map of each kind, from 0, which is no kind.
-const MAPS: [u8; 15] = [
+const MAPS: [u8; 16] = [
     NO_MAP,
     0x0F,
     0x0D,
@@ -60,6 +62,7 @@ const MAPS: [u8; 15] = [
     0x05,
     0x03,
     0x05,
+    0x15,
 ];
 
 // The map of a kind in force, or none.
@@ -122,8 +125,12 @@ pub(crate) fn step_of(kind: u8, part: &[u8]) -> Step
         RESTART_PLAYER => Step::RestartPlayer {
             player: numbers::byte_at(part, 2),
         },
-        _ => Step::FindInterval {
+        FIND_INTERVAL => Step::FindInterval {
             entry: numbers::byte_at(part, 2),
+        },
+        _ => Step::Load {
+            entry: numbers::byte_at(part, 2),
+            value: numbers::word32(part, 3),
         },
     }
 }
@@ -193,5 +200,6 @@ pub fn fields_of(step: Step) -> Fields
         Step::RestartTablet { entry } => of_entry(RESTART_TABLET, 0, entry, 0),
         Step::RestartPlayer { player } => of_entry(RESTART_PLAYER, player, 0, 0),
         Step::FindInterval { entry } => of_entry(FIND_INTERVAL, 0, entry, 0),
+        Step::Load { entry, value } => of_entry(LOAD, 0, entry, value),
     }
 }

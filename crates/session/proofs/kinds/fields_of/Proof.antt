@@ -89,6 +89,12 @@ enum-known-step-14 c = search needs
 of-entry-requires-7 : tie.Need-of-entry-requires-7
 of-entry-requires-7 c κs = search needs
 
+enum-known-step-15 : tie.Need-enum-known-step-15
+enum-known-step-15 c = search needs
+
+of-entry-requires-8 : tie.Need-of-entry-requires-8
+of-entry-requires-8 c κs = search needs
+
 returns : tie.Need-returns
 unfolding spread map-of
 returns c = rw (c .before .before .step .given .1) (c .ranged .ensures)
@@ -145,6 +151,10 @@ returns-14 : tie.Need-returns-14
 unfolding spread map-of
 returns-14 c = rw (c .before .before .step14 .given .1) (c .of-entry7 .ensures)
 
+returns-15 : tie.Need-returns-15
+unfolding spread map-of
+returns-15 c = rw (c .before .before .step15 .given .1) (c .of-entry8 .ensures)
+
 pub fields-of-spec : {M : Type 1} → statement M
 fields-of-spec =
     tie.close
@@ -177,6 +187,8 @@ fields-of-spec =
     of-entry-requires-6
     enum-known-step-14
     of-entry-requires-7
+    enum-known-step-15
+    of-entry-requires-8
     returns
     returns-2
     returns-3
@@ -190,4 +202,5 @@ fields-of-spec =
     returns-11
     returns-12
     returns-13
-    returns-14)
+    returns-14
+    returns-15)

@@ -2,7 +2,7 @@
 -- Assumes nothing.
 use mathlib.Core.Path.{ap}
 use native.Mathlib.Nat.{le-antisymm}
-use Rattle.players.specs.declared.Step.the-variants.{Assign, Release, RequestGuard, Read, Write, Deliver, Respond, Abandon, Lose, Split, Merge, RestartTablet, RestartPlayer, FindInterval}
+use Rattle.players.specs.declared.Step.the-variants.{Assign, Release, RequestGuard, Read, Write, Deliver, Respond, Abandon, Lose, Split, Merge, RestartTablet, RestartPlayer, FindInterval, Load}
 use Rattle.players.specs.Kinds.{map-of, step-of}
 use Rattle.players.proofs.KindLaws.{in-force-range}
 use Rattle.session.specs.Layout.{fields}
@@ -68,6 +68,12 @@ byte-at-requires-10 c κs = search needs
 byte-at-requires-11 : tie.Need-byte-at-requires-11
 byte-at-requires-11 c κs = search needs
 
+byte-at-requires-12 : tie.Need-byte-at-requires-12
+byte-at-requires-12 c κs = search needs
+
+word32-requires-6 : tie.Need-word32-requires-6
+word32-requires-6 c κs = search needs
+
 returns : tie.Need-returns
 unfolding step-of map-of fields
 returns c =
@@ -130,10 +136,15 @@ returns-13 c = of-kind 13 (c .before .before .before .args .part .now) (c .befor
 
 returns-14 : tie.Need-returns-14
 unfolding step-of map-of fields
-returns-14 c =
-    let k = c .before .before .before .args .kind in
-    let range = in-force-range k (c .before .before .before .pre) in
-    let r13 = c .before .match .rest in
+returns-14 c = of-kind 14 (c .before .before .before .args .part .now) (c .before .match .keys14) (ap FindInterval (c .byte-at11 .ensures))
+
+returns-15 : tie.Need-returns-15
+unfolding step-of map-of fields
+returns-15 c =
+    let k = c .before .before .before .before .args .kind in
+    let range = in-force-range k (c .before .before .before .before .pre) in
+    let r14 = c .before .before .match .rest in
+    let r13 = r14 .0 in
     let r12 = r13 .0 in
     let r11 = r12 .0 in
     let r10 = r11 .0 in
@@ -159,7 +170,8 @@ returns-14 c =
     let b11 = beyond 11 k b10 (r11 .1) in
     let b12 = beyond 12 k b11 (r12 .1) in
     let b13 = beyond 13 k b12 (r13 .1) in
-    of-kind 14 (c .before .before .before .args .part .now) (le-antisymm (range .1) b13) (ap FindInterval (c .byte-at11 .ensures))
+    let b14 = beyond 14 k b13 (r14 .1) in
+    of-kind 15 (c .before .before .before .before .args .part .now) (le-antisymm (range .1) b14) (by-two Load (c .before .byte-at12 .ensures) (c .word326 .ensures))
 
 pub step-of-spec : {M : Type 1} → statement M
 step-of-spec =
@@ -184,6 +196,8 @@ step-of-spec =
     byte-at-requires-9
     byte-at-requires-10
     byte-at-requires-11
+    byte-at-requires-12
+    word32-requires-6
     returns
     returns-2
     returns-3
@@ -197,4 +211,5 @@ step-of-spec =
     returns-11
     returns-12
     returns-13
-    returns-14)
+    returns-14
+    returns-15)
