@@ -1,4 +1,4 @@
--- Steps 3, 4 and 5: what they do to a state, case by case, and what their code does to a table.
+-- Steps 3, 4, 5 and 15: what they do to a state, case by case, and what their code does to a table.
 -- Assumes nothing.
 use mathlib.Core.Path.{_≡_, refl, sym, ap, _∙_}
 use mathlib.Core.Logic.{⊎-elim}
@@ -24,9 +24,9 @@ use Rattle.requests.specs.Region.{regionOf}
 use Rattle.requests.specs.Calls.{full, Pass, pass, passed}
 use Rattle.requests.proofs.Basics.{decide}
 use Rattle.requests.proofs.RegionLaws.{passed-region}
-use Rattle.players.specs.declared.Step.the-variants.{RequestGuard, Read, Write}
+use Rattle.players.specs.declared.Step.the-variants.{RequestGuard, Read, Write, Load}
 use Rattle.players.specs.Replies.{refusal, issued, cache-read}
-use Rattle.players.specs.Rules.{empty, State, Result, with-player, with-requests, every, all-entries, owns, live, cleared as cleared-player, request-guard, cache-hit, read-from-store, write, with-cached, step}
+use Rattle.players.specs.Rules.{empty, State, Result, with-player, with-requests, every, all-entries, owns, live, cleared as cleared-player, request-guard, cache-hit, read-from-store, write, load, with-cached, step}
 use Rattle.players.specs.Table.{players-words, tableOf}
 use Rattle.players.proofs.Tables.{Ok}
 use Rattle.steps.specs.InnerWords.{Moves, live-guard, hit, all-are, added, caching, cleared}
@@ -181,6 +181,35 @@ module _ (t : List ℕ) (l : length t ≡ players-words) (p e v : ℕ) where
               let b : length ms < places = rw i (leb-false places (length rs) (full-is o y false h)) in
               rw d
               (er ∙ ap (λ (i : ℕ). issued (i + 1)) m, et ∙ rw (y₂, q-is, x-is) (added-state s₂ (length rs) a (sym i) b refl)))
+
+-- ---- 15 load
+
+module _ (t : List ℕ) (l : length t ≡ players-words) (e v : ℕ) where
+  abbrev d : State → Result
+  d s = step s (Load e v)
+
+  pub load-full : true ≡ full (take 768 (drop 8705 t)) → (r : Reply) → r ≡ refusal 33 → Moves d t r t
+  load-full h r er = refused d t l 33 r er (λ s o y. rw (full-is o y true h))
+
+  module _ (h : false ≡ full (take 768 (drop 8705 t))) where
+    pub load-spent : 4000000 ≤ getD t 0 0 → (r : Reply) → r ≡ refusal 34 → Moves d t r t
+    load-spent k r er = refused d t l 34 r er (λ s o y. rw (full-is o y false h, spent-is o y k))
+
+    pub load-done : getD t 0 0 < 4000000 → (x : Scan) (c : List ℕ) → pass x c ≡ passed (Writing 8 e) (take 768 (drop 8705 t)) → (q : Request) → q ≡ new-request (getD t 0 0 + 1) 8 5 e 0 v 0 false → (t′ : List ℕ) → t′ ≡ added (x .used) q (putMid 8705 768 t c)
+        → (r : Reply) → r ≡ issued (getD t 0 0 + 1) → Moves d t r t′
+    load-done k x c ec q eq t′ et r er =
+        moves d t l r t′
+        (λ s o y.
+        let m = last-is o y in
+        let sc = scan-is o y (writing 8 e) x (told (Writing 8 e) (λ _. refl) t ec) in
+        let a = new-request (s .last + 1) 8 5 e 0 v 0 false in
+        let q-is : q ≡ a = eq ∙ rw m in
+        let done : d s ≡ load s e v = rw (full-is o y false h, left-is o y k) in
+        let n : length (s .requests) < places = leb-false places (length (s .requests)) (full-is o y false h) in
+        rw done (
+          er ∙ ap (λ (i : ℕ). issued (i + 1)) m,
+          et ∙ rw (unmarked (Writing 8 e) (λ _. refl) t ec, y, q-is, sc) (added-state s (length (s .requests)) a refl n refl),
+        ))
 
 -- ---- 3 request a guard
 

@@ -17,7 +17,9 @@ use Rattle.requests.specs.declared.Found.the-variants.{At, Nowhere}
 use Rattle.requests.specs.Model.{drop-request, change-request, mark-abandoned}
 use Rattle.requests.specs.Region.{regionOf}
 use Rattle.requests.specs.Calls.{found, with-abandoned, without, restarted}
-use Rattle.requests.proofs.RegionLaws.{Stands, nowhere-region, found-stands, found-region, without-region, abandoned-region, given-up, restarted-region}
+use Rattle.requests.proofs.Rising.{each-at}
+use Rattle.requests.proofs.RequestRules.{form-of}
+use Rattle.requests.proofs.RegionLaws.{Stands, stands-in, nowhere-region, found-stands, found-region, without-region, abandoned-region, given-up, restarted-region}
 use Rattle.players.specs.declared.Step.the-variants.{Abandon, Lose, RestartPlayer}
 use Rattle.players.specs.Replies.{refusal}
 use Rattle.players.specs.Rules.{fresh-player, State, Result, with-requests, with-player, removed, on-request, abandon, lose, restart-player, step}
@@ -95,12 +97,19 @@ module _ (n : ℕ) (t : List ℕ) (l : length t ≡ players-words) (k : ℕ) (q 
   pub abandon-other : (q .kind ≡ 5 → ⊥) → (r : Reply) → r ≡ refusal 0 → Moves (λ s. step s (Abandon n)) t r t₁
   abandon-other h r er = fit-moves Pending n abandon t l k q e r t₁ (λ s o y x. (er, rw (ne-eqb (q .kind) 5 h) (given s o y x)))
 
+  pub abandon-load : q .kind ≡ 5 → 7 < q .player → (r : Reply) → r ≡ refusal 0 → Moves (λ s. step s (Abandon n)) t r t₁
+  abandon-load h hp r er =
+      fit-moves Pending n abandon t l k q e r t₁
+      (λ s o y x.
+      let p = form-of (s .last) q (each-at _ 0 (s .requests) (o .requests) q (stands-in x)) .player in
+      (er, rw (eq-eqb (q .kind) 5 h, eq-eqb (q .player) 8 (omega arith)) (given s o y x)))
+
   pub abandon-write : q .kind ≡ 5 → q .player < 8 → (t′ : List ℕ) → t′ ≡ dropped (q .guard) (q .player * 256) 256 t₁ → (r : Reply) → r ≡ refusal 0 → Moves (λ s. step s (Abandon n)) t r t′
   abandon-write h hp t′ et r er =
       fit-moves Pending n abandon t l k q e r t′
       (λ s o y x. (
         er,
-        rw (eq-eqb (q .kind) 5 h) (et ∙ ap (dropped (q .guard) (q .player * 256) 256) (given s o y x) ∙ dropped-put _ (q .player) (q .guard) hp),
+        rw (eq-eqb (q .kind) 5 h, ne-eqb (q .player) 8 (λ z. omega arith)) (et ∙ ap (dropped (q .guard) (q .player * 256) 256) (given s o y x) ∙ dropped-put _ (q .player) (q .guard) hp),
       ))
 
 -- ---- 13 restart a player

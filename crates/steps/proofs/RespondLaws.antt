@@ -15,19 +15,19 @@ use Rattle.store.specs.declared.Reply.{Reply}
 use Rattle.requests.specs.declared.Request.{Request}
 use Rattle.requests.specs.declared.Fit.the-variants.{Answerable}
 use Rattle.requests.specs.declared.Found.the-variants.{At}
-use Rattle.requests.specs.Model.{is-guard-request}
+use Rattle.requests.specs.Model.{is-guard-request, is-load}
 use Rattle.requests.specs.Region.{fields-hold}
 use Rattle.requests.specs.Calls.{found, without}
 use Rattle.requests.proofs.Basics.{decide, both-left, both-right}
 use Rattle.requests.proofs.Rising.{each-at}
-use Rattle.requests.proofs.RequestRules.{guard-request-range, entry-low, form-of}
+use Rattle.requests.proofs.RequestRules.{guard-request-range, entry-low, load-fields, form-of}
 use Rattle.requests.proofs.RegionLaws.{stands-in}
 use Rattle.players.specs.declared.Step.the-variants.{Respond}
 use Rattle.players.specs.Replies.{granted as grants, not-held, layout-changed, store-read, committed, rejected}
 use Rattle.players.specs.Rules.{Cached, State, removed, every, owns, live, may-cache, with-cached, cache, still-owned, respond-guard-request, respond-read, respond-write, respond, step}
 use Rattle.players.specs.Table.{players-words, tableOf}
 use Rattle.steps.specs.InnerWords.{Moves, live-guard, caching, filled, dropped}
-use Rattle.steps.specs.InnerRespond.{Responds, owning, still-owning, cacheable, remembering}
+use Rattle.steps.specs.InnerRespond.{Responds, write-reply, owning, still-owning, cacheable, remembering}
 use Rattle.steps.proofs.StateLaws.{owner-word, epoch-word, live-state, granted, cached-put}
 use Rattle.steps.proofs.LeavingLaws.{fit-moves, removed-put}
 use Rattle.steps.proofs.DropLaws.{dropped-put}
@@ -152,19 +152,34 @@ module _ (r : Request) (hp : r .player < 8) (hl : r .low < 256) where
 low-of : (r : Request) → T (fields-hold r) → r .low < 256
 low-of r k = ⊎-elim (λ g. let h = guard-request-range r g k .0 in let i = guard-request-range r g k .1 in omega arith) (λ g. entry-low r g k) (decide (is-guard-request r))
 
+-- the reply to a write, by its outcome
+module _ (r : Request) where
+  pub committed-reply : r .first ≡ 1 → committed (r .serial) (r .value) ≡ write-reply r
+  unfolding write-reply
+  committed-reply f = rw (eq-eqb (r .first) 1 f)
+
+  pub rejected-reply : (r .first ≡ 1 → ⊥) → rejected (r .serial) ≡ write-reply r
+  unfolding write-reply
+  rejected-reply f = rw (ne-eqb (r .first) 1 f)
+
 module _ (r : Request) (hp : r .player < 8) where
   pub read-responds : (t t′ : List ℕ) → t′ ≡ remembering (r .player) (r .low) (r .guard) (r .overlapped) (r .first) (r .second) t → Responds respond-read r t (store-read (r .first) (r .second)) t′
-  read-responds t t′ e = record { responded = λ s k y. (refl, e ∙ remember-state r hp (low-of r k) s (r .first) (r .second) t y) }
+  read-responds t t′ e = record { responded = λ s k _ y. (refl, e ∙ remember-state r hp (low-of r k) s (r .first) (r .second) t y) }
 
   -- ---- write
 
-  pub write-commits : r .first ≡ 1 → (t t′ : List ℕ) → t′ ≡ remembering (r .player) (r .low) (r .guard) (r .overlapped) (r .serial) (r .value) t → Responds respond-write r t (committed (r .serial) (r .value)) t′
-  write-commits f t t′ e =
-      record { responded = λ s k y. rw (eq-eqb (r .first) 1 f) (refl, e ∙ remember-state r hp (low-of r k) s (r .serial) (r .value) t y) }
+  pub write-commits : r .first ≡ 1 → (t t′ : List ℕ) → t′ ≡ remembering (r .player) (r .low) (r .guard) (r .overlapped) (r .serial) (r .value) t → (x : Reply) → x ≡ write-reply r → Responds respond-write r t x t′
+  write-commits f t t′ e x ex =
+      record { responded = λ s k _ y. rw (eq-eqb (r .first) 1 f) (ex ∙ sym (committed-reply r f), e ∙ remember-state r hp (low-of r k) s (r .serial) (r .value) t y) }
 
-  pub write-rejected : (r .first ≡ 1 → ⊥) → (t t′ : List ℕ) → t′ ≡ dropped (r .guard) (r .player * 256) 256 t → Responds respond-write r t (rejected (r .serial)) t′
-  write-rejected f t t′ e =
-      record { responded = λ s k y. rw (ne-eqb (r .first) 1 f) (refl, e ∙ ap (dropped (r .guard) (r .player * 256) 256) y ∙ dropped-put (removed s r) (r .player) (r .guard) hp) }
+  pub write-rejected : (r .first ≡ 1 → ⊥) → (t t′ : List ℕ) → t′ ≡ dropped (r .guard) (r .player * 256) 256 t → (x : Reply) → x ≡ write-reply r → Responds respond-write r t x t′
+  write-rejected f t t′ e x ex =
+      record {
+        responded =
+            λ s k _ y.
+            rw (ne-eqb (r .first) 1 f, ne-eqb (r .player) 8 (λ z. omega arith))
+            (ex ∙ sym (rejected-reply r f), e ∙ ap (dropped (r .guard) (r .player * 256) 256) y ∙ dropped-put (removed s r) (r .player) (r .guard) hp);
+      }
 
 -- ---- guard request
 
@@ -182,35 +197,55 @@ module _ (r : Request) (hp : r .player < 8) (g : r .kind ≡ 3) (t : List ℕ) (
       ∙ owning-state (removed s r) (r .player) (r .serial) (r .low) (r .high - r .low) (omega arith))
 
   pub guard-lost : b ≡ false → Responds respond-guard-request r t (not-held (r .serial)) t
-  guard-lost f = record { responded = λ s k y. rw (owned-is s k y ∙ f) (refl, y) }
+  guard-lost f = record { responded = λ s k _ y. rw (owned-is s k y ∙ f) (refl, y) }
 
   module _ (f : b ≡ true) where
     pub guard-layout : (r .first ≡ 1 → ⊥) → Responds respond-guard-request r t (layout-changed (r .serial)) t
-    guard-layout n = record { responded = λ s k y. rw (owned-is s k y ∙ f, ne-eqb (r .first) 1 n) (refl, y) }
+    guard-layout n = record { responded = λ s k _ y. rw (owned-is s k y ∙ f, ne-eqb (r .first) 1 n) (refl, y) }
 
     pub guard-granted : r .first ≡ 1 → (t′ : List ℕ) → t′ ≡ filled 513 (r .player * 256 + r .low) (r .player * 256 + r .high) (r .serial) t → Responds respond-guard-request r t (grants (r .serial)) t′
     guard-granted n t′ e =
         record {
           responded =
-              λ s k y.
+              λ s k _ y.
               let h = range k .0 in
               let i = range k .1 in
               rw (owned-is s k y ∙ f, eq-eqb (r .first) 1 n)
               (refl, e ∙ ap (filled 513 (r .player * 256 + r .low) (r .player * 256 + r .high) (r .serial)) y ∙ granted (removed s r) (r .player) hp (r .low) (r .high) (omega arith) i (r .serial));
         }
 
+-- ---- load
+
+-- a load carries 0, so that it is not cached, and clears nothing
+pub load-responds : (r : Request) → 7 < r .player → (t : List ℕ) (x : Reply) → x ≡ write-reply r → Responds respond r t x t
+load-responds r h t x ex =
+    record {
+      responded =
+          λ s k p y.
+          let z : r .player ≡ 8 = omega arith in
+          let l : is-load r ≡ true = eq-eqb (r .player) 8 z in
+          let q = load-fields r l k in
+          let five = q .0 in
+          let g : eqb (r .guard) 0 ≡ true = eq-eqb (r .guard) 0 (q .1) in
+          rw (ne-eqb (r .kind) 3 (λ w. omega arith), ne-eqb (r .kind) 4 (λ w. omega arith))
+          (⊎-elim
+          (λ f. let one = eqb-true (r .first) 1 f in rw (eq-eqb (r .first) 1 one, g) (ex ∙ sym (committed-reply r one), y))
+          (λ f. let other = eqb-false (r .first) 1 f in rw (ne-eqb (r .first) 1 other, l) (ex ∙ sym (rejected-reply r other), y))
+          (decide (eqb (r .first) 1)));
+    }
+
 -- ---- by kind
 
 module _ (r : Request) (t : List ℕ) (x : Reply) (t′ : List ℕ) where
   pub by-guard-request : r .kind ≡ 3 → Responds respond-guard-request r t x t′ → Responds respond r t x t′
-  by-guard-request k m = record { responded = λ s h y. rw (eq-eqb (r .kind) 3 k) (m .responded s h y) }
+  by-guard-request k m = record { responded = λ s h p y. rw (eq-eqb (r .kind) 3 k) (m .responded s h p y) }
 
   module _ (k : r .kind ≡ 3 → ⊥) where
     pub by-read : r .kind ≡ 4 → Responds respond-read r t x t′ → Responds respond r t x t′
-    by-read j m = record { responded = λ s h y. rw (ne-eqb (r .kind) 3 k, eq-eqb (r .kind) 4 j) (m .responded s h y) }
+    by-read j m = record { responded = λ s h p y. rw (ne-eqb (r .kind) 3 k, eq-eqb (r .kind) 4 j) (m .responded s h p y) }
 
     pub by-write : (r .kind ≡ 4 → ⊥) → Responds respond-write r t x t′ → Responds respond r t x t′
-    by-write j m = record { responded = λ s h y. rw (ne-eqb (r .kind) 3 k, ne-eqb (r .kind) 4 j) (m .responded s h y) }
+    by-write j m = record { responded = λ s h p y. rw (ne-eqb (r .kind) 3 k, ne-eqb (r .kind) 4 j) (m .responded s h p y) }
 
 -- ---- step 7
 
@@ -219,4 +254,6 @@ pub respond-done : (t : List ℕ) → length t ≡ players-words → (n k : ℕ)
     → Responds respond r (putMid 8705 768 t c) x t′ → Moves (λ s. step s (Respond n)) t x t′
 respond-done t l n k r e c ec x t′ m =
     fit-moves Answerable n respond t l k r e x t′
-    (λ s o y st. m .responded s (form-of (s .last) r (each-at _ 0 (s .requests) (o .requests) r (stands-in st)) .fields) (removed-put o y st c ec))
+    (λ s o y st.
+    let f = form-of (s .last) r (each-at _ 0 (s .requests) (o .requests) r (stands-in st)) in
+    m .responded s (f .fields) (f .player) (removed-put o y st c ec))

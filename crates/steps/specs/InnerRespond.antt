@@ -3,20 +3,26 @@
 use mathlib.Core.Path.{_≡_}
 use mathlib.Core.Bool.{Bool, true, cond, not, _&&_}
 use mathlib.Core.List.{List}
-use Prim.Native.Nat.{ℕ, zero, suc, _+_, _-_, _*_}
+use Prim.Native.Nat.{ℕ, zero, suc, _+_, _-_, _*_, _≤_}
 use lib.Dec.{T, ltb, eqb}
 use lib.ListN.{getD}
 use Rattle.store.specs.Model.{bad-range}
 use Rattle.store.specs.declared.Reply.{Reply}
 use Rattle.requests.specs.declared.Request.{Request}
+use Rattle.requests.specs.Model.{loader}
 use Rattle.requests.specs.Region.{fields-hold}
+use Rattle.players.specs.Replies.{committed, rejected}
 use Rattle.players.specs.Rules.{State, Result, removed}
 use Rattle.players.specs.Table.{epochs-at, owners-at, tableOf}
 use Rattle.steps.specs.InnerWords.{live-guard, caching}
 
 -- what is done to the table of a state that request r has left, where f is the rule of the state that still had it
 pub record Responds (f : State → Request → Result) (r : Request) (t : List ℕ) (x : Reply) (t′ : List ℕ) : Type 0 where
-  pub responded : (s : State) → T (fields-hold r) → t ≡ tableOf (removed s r) → (x ≡ f s r .reply) × (t′ ≡ tableOf (f s r .state))
+  pub responded : (s : State) → T (fields-hold r) → r .player ≤ loader → t ≡ tableOf (removed s r) → (x ≡ f s r .reply) × (t′ ≡ tableOf (f s r .state))
+
+-- the reply to a write
+unfoldable pub write-reply : Request → Reply
+write-reply r = cond (eqb (r .first) 1) (committed (r .serial) (r .value)) (rejected (r .serial))
 
 -- player p owns each of k entries from entry e on, with an epoch below n
 unfoldable pub owning : ℕ → ℕ → ℕ → ℕ → List ℕ → Bool

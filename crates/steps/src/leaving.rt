@@ -28,7 +28,7 @@ fn give_up(players: &mut [u32], k: usize, delivered: bool)
     region::abandon(&mut players[layout::REQUESTS..layout::REQUESTS_END], k);
 }
 
-// Step 8: a delivered request leaves, another is marked; the guard that a write carries is dropped.
+// Step 8: a delivered request leaves, another is marked; the guard that a player's write carries is dropped.
 pub(crate) fn abandon(players: &mut [u32], serial: u32) -> Reply
     requires { ⌜ length (now players) ≡ players-words ⌝ }
     ensures { λ r. ⌜ Moves (λ s. step s (Abandon serial)) (now (players .entry)) r (now (players .exit)) ⌝ }
@@ -43,6 +43,9 @@ pub(crate) fn abandon(players: &mut [u32], serial: u32) -> Reply
         Found::At { place, request } => {
             give_up(players, place, request.delivered);
             if request.kind != kinds::WRITE {
+                return done();
+            }
+            if request.player > layout::LAST_PLAYER {
                 return done();
             }
             cells::drop_guard(players, request.player, request.guard);

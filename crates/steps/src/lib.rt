@@ -57,6 +57,7 @@ pub(crate) fn apply(store: &mut [u32], players: &mut [u32], next: Step) -> Reply
         Step::RestartTablet { entry } => store_steps::restart_tablet(store, entry),
         Step::RestartPlayer { player } => leaving::restart_player(players, player),
         Step::FindInterval { entry } => store_steps::find_interval(store, entry),
+        Step::Load { entry, value } => issuing::load(players, entry, value),
     }
 }
 

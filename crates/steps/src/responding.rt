@@ -16,7 +16,7 @@ ghost use lib.ListN.{length};
 ghost use Rattle.players.specs.declared.Step.the-variants.{Respond};
 ghost use Rattle.players.specs.Rules.{respond, respond-guard-request, respond-read, respond-write, step};
 ghost use Rattle.steps.specs.InnerWords.{Moves, filled};
-ghost use Rattle.steps.specs.InnerRespond.{Responds, still-owning, remembering};
+ghost use Rattle.steps.specs.InnerRespond.{Responds, still-owning, remembering, write-reply};
 ghost use Rattle.players.specs.Table.{players-words, held-at};
 
 // Whether the player owns each entry from `low` up to `high` with an epoch below the serial; false where that is no range.
@@ -132,18 +132,32 @@ fn respond_read(players: &mut [u32], r: Request) -> Reply
     }
 }
 
-// A write: committed, and cached if it may be; or rejected, and the guard carried is dropped.
+// The reply to a write.
+fn write_reply(r: Request) -> Reply
+    ensures { λ x. ⌜ x ≡ write-reply r ⌝ }
+{
+    if r.first != 1 {
+        return Reply {
+            code: codes::REJECTED,
+            a: r.serial,
+            b: 0,
+        };
+    }
+    Reply {
+        code: codes::COMMITTED,
+        a: r.serial,
+        b: r.value,
+    }
+}
+
+// A player's write: committed, and cached if it may be; or rejected, and the guard carried is dropped.
 fn respond_write(players: &mut [u32], r: Request) -> Reply
     requires { ⌜ (length (now players) ≡ players-words) × (r .player < 8) ⌝ }
     ensures { λ x. ⌜ Responds respond-write r (now (players .entry)) x (now (players .exit)) ⌝ }
 {
     if r.first != 1 {
         cells::drop_guard(players, r.player, r.guard);
-        return Reply {
-            code: codes::REJECTED,
-            a: r.serial,
-            b: 0,
-        };
+        return write_reply(r);
     }
     remember(
         players,
@@ -154,18 +168,17 @@ fn respond_write(players: &mut [u32], r: Request) -> Reply
         r.serial,
         r.value,
     );
-    Reply {
-        code: codes::COMMITTED,
-        a: r.serial,
-        b: r.value,
-    }
+    write_reply(r)
 }
 
-// By kind, once the request has left.
+// By kind, once the request has left; nothing follows from a load.
 fn respond_to(players: &mut [u32], r: Request) -> Reply
-    requires { ⌜ (length (now players) ≡ players-words) × (r .player < 8) ⌝ }
+    requires { ⌜ length (now players) ≡ players-words ⌝ }
     ensures { λ x. ⌜ Responds respond r (now (players .entry)) x (now (players .exit)) ⌝ }
 {
+    if r.player > layout::LAST_PLAYER {
+        return write_reply(r);
+    }
     if r.kind == kinds::GUARD_REQUEST {
         return respond_guard_request(players, r);
     }

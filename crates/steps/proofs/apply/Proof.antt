@@ -2,7 +2,7 @@
 -- Assumes nothing.
 use mathlib.Core.Path.{refl}
 use borrow.Author.Needs.{needs}
-use Rattle.players.specs.declared.Step.the-variants.{Assign, Release, RequestGuard, Read, Write, Deliver, Respond, Abandon, Lose, Split, Merge, RestartTablet, RestartPlayer, FindInterval}
+use Rattle.players.specs.declared.Step.the-variants.{Assign, Release, RequestGuard, Read, Write, Deliver, Respond, Abandon, Lose, Split, Merge, RestartTablet, RestartPlayer, FindInterval, Load}
 use Rattle.players.proofs.CallLaws.{wrong-length}
 use Rattle.steps.proofs.JoinLaws.{moves-refines, shifts-refines, acts-refines, both-long, store-wrong, players-wrong}
 use Rattle.steps.proofs.apply.Statement.{statement}
@@ -108,6 +108,12 @@ enum-known-next-14 c = search needs
 
 find-interval-requires : tie.Need-find-interval-requires
 find-interval-requires c κs = search needs
+
+enum-known-next-15 : tie.Need-enum-known-next-15
+enum-known-next-15 c = search needs
+
+load-requires : tie.Need-load-requires
+load-requires c κs = search needs
 
 same-length : tie.Need-same-length
 same-length c = search needs
@@ -293,6 +299,19 @@ returns-16 c =
     let w = both-long (a .store .now) (a .players .now) (b .before .if1 .left) (b .if2 .left) in
     rw (n .next14 .given .1) (shifts-refines (FindInterval (x .0)) (a .store .now) (a .players .now) w _ _ (c .find-interval .ensures))
 
+same-length-16 : tie.Need-same-length-16
+same-length-16 c = search needs
+
+returns-17 : tie.Need-returns-17
+returns-17 c =
+    let e = c .before .before in
+    let n = e .before .before .before in
+    let x = n .next15 .given .0 in
+    let b = n .before .before in
+    let a = b .before .before .before .before .args in
+    let w = both-long (a .store .now) (a .players .now) (b .before .if1 .left) (b .if2 .left) in
+    rw (n .next15 .given .1) (moves-refines (Load (x .0) (x .1 .0)) (a .store .now) (a .players .now) w _ _ refl (e .load .ensures))
+
 pub apply-spec : {M : Type 1} → statement M
 apply-spec =
     tie.close
@@ -329,6 +348,8 @@ apply-spec =
     restart-player-requires
     enum-known-next-14
     find-interval-requires
+    enum-known-next-15
+    load-requires
     same-length
     returns-3
     same-length-2
@@ -357,4 +378,6 @@ apply-spec =
     same-length-14
     returns-15
     same-length-15
-    returns-16)
+    returns-16
+    same-length-16
+    returns-17)

@@ -3,7 +3,6 @@
 use mathlib.Core.Path.{sym, _∙_}
 use Rattle.requests.specs.declared.Fit.the-variants.{Answerable}
 use Rattle.requests.proofs.ScanLaws.{found-as}
-use Rattle.requests.proofs.RegionLaws.{found-fits}
 use Rattle.players.specs.Rules.{respond}
 use Rattle.steps.proofs.LeavingLaws.{unfit-moves}
 use Rattle.steps.proofs.RespondLaws.{respond-done}
@@ -49,7 +48,7 @@ respond-to-requires c κs =
     let f = c .before .before .before .before .before .before in
     let y = f .before .before in
     let x = y .before .before .before .before in
-    (c .before .before .players2 .given .1 ∙ x .pre, found-fits Answerable (x .args .serial) _ _ _ (found-as Answerable (y .find .ensures) (sym (f .found .given .1))) .player)
+    c .before .before .players2 .given .1 ∙ x .pre
 
 same-length : tie.Need-same-length
 same-length c = search needs
