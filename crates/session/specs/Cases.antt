@@ -3,11 +3,11 @@
 use mathlib.Core.Path.{_≡_, refl}
 use mathlib.Core.List.{List, [], _∷_, _++_, map}
 use Prim.Native.Nat.{ℕ}
-use Rattle.store.specs.Model.{unbroken, interval-first, interval-last}
+use Rattle.store.specs.Model.{unbroken, tablet-first, tablet-end, interval-first, interval-last}
 use Rattle.store.specs.declared.Reply.{Reply}
 use Rattle.players.specs.declared.Step.{Step}
-use Rattle.players.specs.declared.Step.the-variants.{FindInterval}
-use Rattle.players.specs.Replies.{reply, done, issued, cache-read, store-read, rejected, granted, interval, refusal}
+use Rattle.players.specs.declared.Step.the-variants.{FindInterval, Load}
+use Rattle.players.specs.Replies.{reply, done, issued, cache-read, store-read, committed, rejected, granted, interval, refusal}
 use Rattle.players.specs.Rules.{State, replies, fresh}
 use Rattle.players.specs.Cases.{session as session-steps, cases as step-cases, Case as StepCase}
 use Rattle.players.specs.Kinds.{map-of, step-of}
@@ -73,6 +73,18 @@ refused-first = mark ++ (0x03 ∷ 0x0D ∷ 0x08 ∷ 0x07 ∷ 0x04 ∷ 0x00 ∷ 0
 abbrev intervals-found : List ℕ
 intervals-found = mark ++ (0x05 ∷ 0x0E ∷ 0x07 ∷ 0x05 ∷ 0x0E ∷ 0xFF ∷ 0x05 ∷ 0x17 ∷ 0x07 ∷ [])
 
+-- document 02 §2: entry 45 is loaded with 7, and the load commits; after a tablet restart another load there, with 8, is turned back
+abbrev loaded : List ℕ
+loaded =
+    mark
+    ++ (0x15 ∷ 0x0F ∷ 0x2D ∷ 0x07 ∷ 0x00 ∷ 0x00 ∷ 0x00
+    ∷ 0x21 ∷ 0x06 ∷ 0x01 ∷ 0x00 ∷ 0x00 ∷ 0x00
+    ∷ 0x21 ∷ 0x07 ∷ 0x01 ∷ 0x00 ∷ 0x00 ∷ 0x00
+    ∷ 0x05 ∷ 0x0C ∷ 0x00
+    ∷ 0x15 ∷ 0x0F ∷ 0x2D ∷ 0x08 ∷ 0x00 ∷ 0x00 ∷ 0x00
+    ∷ 0x21 ∷ 0x06 ∷ 0x02 ∷ 0x00 ∷ 0x00 ∷ 0x00
+    ∷ 0x21 ∷ 0x07 ∷ 0x02 ∷ 0x00 ∷ 0x00 ∷ 0x00 ∷ [])
+
 -- ---- the rows
 
 -- "none 24; 40: 25; 02 00: 27; 01 C8: 26; 03 04 00: 27; 07 04 00: 24"
@@ -88,6 +100,11 @@ record-cases =
     ∷ case (record-bytes (0x05 ∷ 0x0E ∷ 0x07 ∷ [])) (done ∷ [])
     ∷ case (record-bytes (0x01 ∷ 0x0E ∷ [])) (refusal wrong-fields ∷ [])
     ∷ case (record-bytes (0x05 ∷ 0x0E ∷ [])) (refusal cut-short ∷ [])
+    -- document 02 §2, "Kind 15 (entry and value, map 15 hexadecimal)": taken; without a value, with a player; cut short
+    ∷ case (record-bytes (0x15 ∷ 0x0F ∷ 0x2D ∷ 0x07 ∷ 0x00 ∷ 0x00 ∷ 0x00 ∷ [])) (done ∷ [])
+    ∷ case (record-bytes (0x05 ∷ 0x0F ∷ 0x2D ∷ [])) (refusal wrong-fields ∷ [])
+    ∷ case (record-bytes (0x17 ∷ 0x0F ∷ 0x08 ∷ 0x2D ∷ 0x07 ∷ 0x00 ∷ 0x00 ∷ 0x00 ∷ [])) (refusal wrong-fields ∷ [])
+    ∷ case (record-bytes (0x15 ∷ 0x0F ∷ 0x2D ∷ 0x07 ∷ 0x00 ∷ 0x00 ∷ [])) (refusal cut-short ∷ [])
     -- "26 means a kind not in force": 23; 23 with the fields of 14, where 26 comes before 27; 0
     ∷ case (record-bytes (0x01 ∷ 0x17 ∷ [])) (refusal unknown-kind ∷ [])
     ∷ case (record-bytes (0x05 ∷ 0x17 ∷ 0x07 ∷ [])) (refusal unknown-kind ∷ [])
@@ -115,6 +132,8 @@ session-cases =
     ∷ case (session refused-first 16384 5460) (refusal 28 ∷ issued 1 ∷ reply at-end 2 11 ∷ [])
     -- document 02 §1: two guard intervals found, and a kind not in force
     ∷ case (session intervals-found 16384 5460) (interval 0 255 ∷ interval 0 255 ∷ reply unknown-kind 2 10 ∷ [])
+    -- document 02 §2: a load that commits, one that is turned back
+    ∷ case (session loaded 16384 5460) (issued 1 ∷ done ∷ committed 1 7 ∷ done ∷ issued 2 ∷ done ∷ rejected 2 ∷ reply at-end 7 45 ∷ [])
     ∷ []
 
 -- all of them: steps, records, sessions
@@ -123,7 +142,7 @@ cases = map (λ (c : StepCase). case (steps (c .from) (c .steps)) (c .expected))
 
 -- each case is found as expected
 pub theorem : map (λ (c : Case). found (c .given)) cases ≡ map (λ (c : Case). c .expected) cases
-unfolding unbroken interval-first interval-last fields-length record-length fields map-of step-of tested begins run-from
+unfolding unbroken tablet-first tablet-end interval-first interval-last fields-length record-length fields map-of step-of tested begins run-from
 theorem = refl
 
 -- the document's session is what is written for its steps
@@ -139,3 +158,12 @@ interval-read = refl
 pub interval-written : encode (FindInterval 7) ≡ 0x05 ∷ 0x0E ∷ 0x07 ∷ []
 unfolding field-bytes map-of
 interval-written = refl
+
+-- the record of a load: read, and written
+pub load-read : decode (0x15 ∷ 0x0F ∷ 0x2D ∷ 0x04 ∷ 0x03 ∷ 0x02 ∷ 0x81 ∷ []) ≡ Record (Load 45 2164392708) 7
+unfolding fields-length record-length fields map-of step-of tested
+load-read = refl
+
+pub load-written : encode (Load 45 2164392708) ≡ 0x15 ∷ 0x0F ∷ 0x2D ∷ 0x04 ∷ 0x03 ∷ 0x02 ∷ 0x81 ∷ []
+unfolding field-bytes map-of
+load-written = refl
