@@ -10,7 +10,7 @@ use native.Mathlib.Omega.{arith}
 use lib.Dec.{T, ltb, eqb}
 use lib.ListN.{length, getD, drop}
 use Rattle.store.specs.Model.{serials, unbroken, tablet-first, tablet-end, interval-first, interval-last}
-use Rattle.store.specs.Table.{part as part-of, seek, guardAt, storeOf, coded, laid, listed, tableOf as store-table, at-most, rising, intervals, boundaries, valid as valid-store}
+use Rattle.store.specs.Table.{part as part-of, seek, guardAt, storeOf, coded, laid, listed, tableOf as store-table, at-most, guard-holds, rising, intervals, boundaries, valid as valid-store}
 use Rattle.store.specs.declared.Reply.{Reply}
 use Rattle.requests.specs.Region.{requestOf, requestsFrom, requestsOf, placed, fields-hold, outcome-holds, request-holds, words-fit, places-hold, valid as valid-requests}
 use Rattle.players.specs.declared.Step.{Step}
@@ -89,7 +89,7 @@ read-answered = read-arrived ++ (Respond 3 ∷ [])
 -- ---- what is computed: the tables are words, and what the promise says of them
 
 words : Words (store-after []) × Words (players-after []) × Words (store-after asked) × Words (players-after asked) × Words (store-after read-arrived) × Words (players-after read-arrived) × Words (store-after read-answered) × Words (players-after read-answered)
-unfolding unbroken tablet-first tablet-end seek guardAt requestOf requestsFrom requestsOf fields-hold outcome-holds request-holds words-fit cell region at-most cached-holds cached-all placed places-hold valid-requests boundaries intervals rising coded laid valid valid-players valid-store stateOf storeOf part-of store-table tableOf listed state-after
+unfolding unbroken tablet-first tablet-end seek guardAt requestOf requestsFrom requestsOf fields-hold outcome-holds request-holds words-fit cell region at-most cached-holds cached-all placed places-hold valid-requests boundaries intervals rising guard-holds coded laid valid valid-players valid-store stateOf storeOf part-of store-table tableOf listed state-after
 words = (tt, tt, tt, tt, tt, tt, tt, tt)
 
 fits : T (step-fits (Split 5)) × T (step-fits (Assign 0 (range 0 9))) × T (step-fits (Deliver 2)) × T (step-fits (Respond 3)) × T (step-fits (Read 0 1))
@@ -122,7 +122,7 @@ rows :
     ∷ (3 ∷ 0 ∷ 2 ∷ 3 ∷ 2 ∷ [])
     ∷ (2 ∷ 0 ∷ 2 ∷ 3 ∷ 2 ∷ [])
     ∷ []
-unfolding unbroken tablet-first tablet-end seek guardAt requestOf requestsFrom requestsOf fields-hold outcome-holds request-holds words-fit cell region at-most cached-holds cached-all placed places-hold valid-requests boundaries intervals rising coded laid valid valid-players valid-store stateOf storeOf part-of store-table tableOf listed state-after
+unfolding unbroken tablet-first tablet-end seek guardAt requestOf requestsFrom requestsOf fields-hold outcome-holds request-holds words-fit cell region at-most cached-holds cached-all placed places-hold valid-requests boundaries intervals rising guard-holds coded laid valid valid-players valid-store stateOf storeOf part-of store-table tableOf listed state-after
 rows = refl
 
 -- the j-th number of the i-th row, counted from 0
@@ -192,7 +192,7 @@ abbrev guard-split : List Step
 guard-split = asked ++ (Deliver 2 ∷ Split 5 ∷ [])
 
 split-words : Words (store-after guard-split) × Words (players-after guard-split)
-unfolding unbroken tablet-first tablet-end seek guardAt requestOf requestsFrom requestsOf fields-hold outcome-holds request-holds words-fit cell region at-most cached-holds cached-all placed places-hold valid-requests boundaries intervals rising coded laid valid valid-players valid-store stateOf storeOf part-of store-table tableOf listed state-after
+unfolding unbroken tablet-first tablet-end seek guardAt requestOf requestsFrom requestsOf fields-hold outcome-holds request-holds words-fit cell region at-most cached-holds cached-all placed places-hold valid-requests boundaries intervals rising guard-holds coded laid valid valid-players valid-store stateOf storeOf part-of store-table tableOf listed state-after
 split-words = (tt, tt)
 
 split-fits : T (step-fits (FindInterval 6)) × T (step-fits (FindInterval 10))
@@ -208,7 +208,7 @@ reach-rows :
     map reached (taken (FindInterval 6) (store-after guard-split) (players-after guard-split) ∷ taken (FindInterval 10) (store-after guard-split) (players-after guard-split) ∷ [])
     ++ ((getD (players-after guard-split) 0 0 ∷ getD (store-after guard-split) 5 0 ∷ []) ∷ map (storeOf (store-after guard-split) .guard) (6 ∷ 7 ∷ 8 ∷ 9 ∷ 10 ∷ []) ∷ [])
     ≡ (9 ∷ 0 ∷ 8 ∷ 2 ∷ []) ∷ (9 ∷ 9 ∷ 255 ∷ 2 ∷ []) ∷ (2 ∷ 1 ∷ []) ∷ (2 ∷ 2 ∷ 2 ∷ 0 ∷ 0 ∷ []) ∷ []
-unfolding unbroken tablet-first tablet-end interval-first interval-last seek guardAt requestOf requestsFrom requestsOf fields-hold outcome-holds request-holds words-fit cell region at-most cached-holds cached-all placed places-hold valid-requests boundaries intervals rising coded laid valid valid-players valid-store stateOf storeOf part-of store-table tableOf listed state-after
+unfolding unbroken tablet-first tablet-end interval-first interval-last seek guardAt requestOf requestsFrom requestsOf fields-hold outcome-holds request-holds words-fit cell region at-most cached-holds cached-all placed places-hold valid-requests boundaries intervals rising guard-holds coded laid valid valid-players valid-store stateOf storeOf part-of store-table tableOf listed state-after
 reach-rows = refl
 
 module _ (f : Program) (k : Keeps f) where
@@ -315,7 +315,7 @@ run-rows :
     ∷ (1 ∷ 1 ∷ 0 ∷ 1 ∷ [])
     ∷ (1 ∷ 0 ∷ 0 ∷ 0 ∷ [])
     ∷ []
-unfolding fields-length record-length fields map-of step-of tested begins run-from unbroken tablet-first tablet-end seek guardAt requestOf requestsFrom requestsOf fields-hold outcome-holds request-holds words-fit cell region at-most cached-holds cached-all placed places-hold valid-requests boundaries intervals rising coded laid valid valid-players valid-store stateOf storeOf part-of store-table tableOf listed state-after
+unfolding fields-length record-length fields map-of step-of tested begins run-from unbroken tablet-first tablet-end seek guardAt requestOf requestsFrom requestsOf fields-hold outcome-holds request-holds words-fit cell region at-most cached-holds cached-all placed places-hold valid-requests boundaries intervals rising guard-holds coded laid valid valid-players valid-store stateOf storeOf part-of store-table tableOf listed state-after
 run-rows = refl
 
 reads-handed : HandedRun (store-after []) (players-after []) two-reads 9 three-places

@@ -42,6 +42,7 @@ fn kind(kind: u8) {
         kinds::RESTART_TABLET => say(b"restart tablet"),
         kinds::RESTART_PLAYER => say(b"restart player"),
         kinds::FIND_INTERVAL => say(b"find stretch"),
+        kinds::LOAD => say(b"load"),
         _ => other(kind),
     }
 }
