@@ -46,11 +46,11 @@ module _ (r : Request) where
     pub ranged-load : (r .high ≡ 0 → ⊥) → false ≡ load-holds r
     ranged-load h = rw (lt-ltb (r .low) 256 l, ne-eqb (r .high) 0 h)
 
-    pub guarded-load : r .high ≡ 0 → (r .guard ≡ 0 → ⊥) → false ≡ load-holds r
-    guarded-load h g = rw (lt-ltb (r .low) 256 l, eq-eqb (r .high) 0 h, ne-eqb (r .guard) 0 g)
+    pub crossed-load : r .high ≡ 0 → r .overlapped ≡ true → false ≡ load-holds r
+    crossed-load h o = rw (lt-ltb (r .low) 256 l, eq-eqb (r .high) 0 h, o)
 
-    pub plain-load : r .high ≡ 0 → r .guard ≡ 0 → not (r .overlapped) ≡ load-holds r
-    plain-load h g = rw (lt-ltb (r .low) 256 l, eq-eqb (r .high) 0 h, eq-eqb (r .guard) 0 g)
+    pub plain-load : r .high ≡ 0 → r .overlapped ≡ false → eqb (r .guard) 0 ≡ load-holds r
+    plain-load h o = rw (lt-ltb (r .low) 256 l, eq-eqb (r .high) 0 h, o)
 
   -- the loader's, and a player's by its kind
   module _ (y : r .player ≡ 8) where

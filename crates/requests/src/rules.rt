@@ -55,10 +55,10 @@ fn load_holds(r: Request) -> bool
     if r.high != 0 {
         return false;
     }
-    if r.guard != 0 {
+    if r.overlapped {
         return false;
     }
-    !r.overlapped
+    r.guard == 0
 }
 
 // Whether the fields that a request's kind has, and those that it lacks, keep the rules. The loader's is a write.

@@ -1,4 +1,4 @@
-// Steps 3, 4, 5 and 15: requests that are issued. The length of the players' table is known; its rules are not tested.
+// Steps 3, 4 and 5: requests that are issued. The length of the players' table is known; its rules are not tested.
 use crate::cells;
 use crate::issued;
 use players::layout;
@@ -14,13 +14,13 @@ ghost use mathlib.Core.Path.{_≡_};
 ghost use lib.ListN.{length};
 ghost use mathlib.Core.Bool.{false};
 ghost use Rattle.requests.specs.Model.{new-request};
-ghost use Rattle.players.specs.declared.Step.the-variants.{Load, Read, RequestGuard, Write};
+ghost use Rattle.players.specs.declared.Step.the-variants.{Read, RequestGuard, Write};
 ghost use Rattle.players.specs.Rules.{step};
 ghost use Rattle.steps.specs.InnerWords.{Moves, added};
 ghost use Rattle.players.specs.Table.{players-words};
 
 // Adds a request at place `k`, the first that is not used; its serial is the last one issued.
-fn add(players: &mut [u32], k: usize, r: Request)
+pub(crate) fn add(players: &mut [u32], k: usize, r: Request)
     requires { ⌜ length (now players) ≡ players-words ⌝ }
     ensures { λ _. ⌜ now (players .exit) ≡ added k r (now (players .entry)) ⌝ }
 {
@@ -49,7 +49,7 @@ fn for_guard(serial: u32, player: u8, range: Range) -> Request
 }
 
 // A read (kind 4) or a write (kind 5) of an entry.
-fn for_entry(
+pub(crate) fn for_entry(
     serial: u32,
     player: u8,
     kind: u8,
@@ -195,41 +195,6 @@ pub(crate) fn write(players: &mut [u32], player: u8, entry: u8, value: u32) -> R
             value,
             guard,
             scan.hit,
-        ),
-    );
-    issued(last + 1)
-}
-
-// Step 15: a write of the loader, which needs no ownership, carries no guard and crosses no request.
-pub(crate) fn load(players: &mut [u32], entry: u8, value: u32) -> Reply
-    requires { ⌜ length (now players) ≡ players-words ⌝ }
-    ensures { λ r. ⌜ Moves (λ s. step s (Load entry value)) (now (players .entry)) r (now (players .exit)) ⌝ }
-{
-    if region::is_full(&players[layout::REQUESTS..layout::REQUESTS_END]) {
-        return refuse(codes::NO_PLACE_LEFT);
-    }
-    let last = players[layout::LAST];
-    if last >= layout::SERIALS {
-        return refuse(codes::NO_SERIAL_LEFT);
-    }
-    let scan = region::scan(
-        &mut players[layout::REQUESTS..layout::REQUESTS_END],
-        Look::Writing {
-            player: requests::layout::LOADER,
-            entry,
-        },
-    );
-    add(
-        players,
-        scan.used,
-        for_entry(
-            last + 1,
-            requests::layout::LOADER,
-            kinds::WRITE,
-            entry,
-            value,
-            0,
-            false,
         ),
     );
     issued(last + 1)

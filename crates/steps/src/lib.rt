@@ -2,6 +2,7 @@
 mod cells;
 mod issuing;
 mod leaving;
+mod loading;
 mod ownership;
 mod responding;
 pub mod running;
@@ -57,7 +58,7 @@ pub(crate) fn apply(store: &mut [u32], players: &mut [u32], next: Step) -> Reply
         Step::RestartTablet { entry } => store_steps::restart_tablet(store, entry),
         Step::RestartPlayer { player } => leaving::restart_player(players, player),
         Step::FindInterval { entry } => store_steps::find_interval(store, entry),
-        Step::Load { entry, value } => issuing::load(players, entry, value),
+        Step::Load { entry, value } => loading::load(players, entry, value),
     }
 }
 

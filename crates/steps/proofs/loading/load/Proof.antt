@@ -1,11 +1,11 @@
--- `steps::issuing::load` meets its contract: a case at each return.
+-- `steps::loading::load` meets its contract: a case at each return.
 -- Assumes nothing.
 use mathlib.Core.Path.{sym, _∙_}
 use native.Mathlib.Omega.{arith}
 use borrow.Author.Needs.{needs}
 use Rattle.steps.proofs.IssuingLaws.{next-fits, load-full, load-spent, load-done}
-use Rattle.steps.proofs.issuing.load.Statement.{statement}
-use Rattle.steps.proofs.issuing.load.Tie as tie
+use Rattle.steps.proofs.loading.load.Statement.{statement}
+use Rattle.steps.proofs.loading.load.Tie as tie
 
 sub-is-full : tie.Need-sub-is-full
 sub-is-full c = search needs
