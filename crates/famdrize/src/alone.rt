@@ -84,7 +84,7 @@ pub extern "C" fn famdrize_store_merge(store: &mut [u32], entry: u8) -> Answer
     given(store::merge(store, entry))
 }
 
-// The guards of the tablet that holds an entry become 0.
+// The guards of the tablet that holds an entry become barred.
 #[no_mangle]
 pub extern "C" fn famdrize_store_restart(store: &mut [u32], entry: u8) -> Answer
     ensures { λ r. ⌜ done (reply-of r) (now (store .exit)) ≡ called (restart entry) (now (store .entry)) ⌝ }

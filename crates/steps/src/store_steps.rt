@@ -35,7 +35,7 @@ pub(crate) fn merge(store: &mut [u32], entry: u8) -> Reply
     store::unchecked::merge(store, entry)
 }
 
-// Step 12: the guards of the tablet that holds the entry become 0.
+// Step 12: the guards of the tablet that holds the entry become barred.
 pub(crate) fn restart_tablet(store: &mut [u32], entry: u8) -> Reply
     requires { ⌜ length (now store) ≡ store-words ⌝ }
     ensures { λ r. ⌜ Shifts (λ s. step s (RestartTablet entry)) (now (store .entry)) r (now (store .exit)) ⌝ }

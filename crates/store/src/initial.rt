@@ -14,7 +14,7 @@ fn lay_zeros(part: &mut [u32])
     words::copy(part, &zeros);
 }
 
-// One tablet, and zeros in all five columns elsewhere: guard 0 everywhere is one interval, from entry 0 on.
+// One tablet, and zeros in all five columns elsewhere: an open guard everywhere is one interval, from entry 0 on.
 pub(crate) fn lay_store(store: &mut [u32])
     requires { ⌜ length (now store) ≡ store-words ⌝ }
     ensures { λ _. ⌜ now (store .exit) ≡ tableOf fresh ⌝ }
