@@ -188,7 +188,7 @@ pub trait Library {
     fn store_find_interval(&self, _store: &[u32], _entry: u8) -> Interval {
         unimplemented!("a library of the kinds 1 to {}", self.kinds())
     }
-    /// A write that carries a guard.
+    /// A write that carries a guard, which is any number; 0 is that of a load.
     fn store_write(
         &self,
         store: &mut [u32],
@@ -203,6 +203,6 @@ pub trait Library {
     fn store_split(&self, store: &mut [u32], entry: u8) -> Reply;
     /// The boundary before an entry removed.
     fn store_merge(&self, store: &mut [u32], entry: u8) -> Reply;
-    /// The guards of the tablet that holds an entry become 0.
+    /// The entries of the tablet that holds an entry are barred.
     fn store_restart(&self, store: &mut [u32], entry: u8) -> Reply;
 }

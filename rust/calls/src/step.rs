@@ -178,6 +178,8 @@ kinds! {
     13 RestartPlayer { player: u8 }
     /// Kind 14, document 02 §1, "How far a guard reaches".
     14 FindInterval { entry: u8 }
+    /// Kind 15, document 02 §2, "load".
+    15 Load { entry: u8, value: u32 }
 }
 
 impl Step {

@@ -2,7 +2,7 @@
 
 use calls::Range;
 
-use crate::numbers::MAX_SERIAL;
+use crate::numbers::{BARRED, LOADER, MAX_SERIAL, OPEN};
 use crate::prng::Prng;
 use crate::request_words::{RequestWords, REQUEST_WORDS};
 use crate::state::{Cached, Operation, Request, State};
@@ -21,7 +21,9 @@ const READ: usize = 2;
 const READ_DELIVERED: usize = 3;
 const WRITE: usize = 4;
 const WRITE_DELIVERED: usize = 5;
-const USED: usize = 6;
+const LOAD: usize = 6;
+const LOAD_DELIVERED: usize = 7;
+const USED: usize = 8;
 
 /// The guard intervals of [`rich_state`].
 const INTERVALS: usize = 3;
@@ -30,7 +32,7 @@ const INTERVALS: usize = 3;
 const CACHED_ENTRY: usize = 7;
 
 /// A state in which every rule has something to apply to: three guard intervals, each kind of
-/// request undelivered and delivered, a full and an empty cached value, serials left.
+/// request and a load undelivered and delivered, a full and an empty cached value, serials left.
 pub fn rich_state(rng: &mut Prng) -> State {
     let mut state = any_state(rng);
     let last = rng.between(1_000, MAX_SERIAL - 1_000);
@@ -61,7 +63,8 @@ pub fn rich_state(rng: &mut Prng) -> State {
     let (second, third) = (rng.between(2, 100) as usize, rng.between(101, 255) as usize);
     state.store.guards[..second].fill(guard);
     state.store.guards[second..third].fill(guard - 1);
-    state.store.guards[third..].fill(guard - 2);
+    let last_guard = [guard - 2, OPEN, BARRED][rng.index(3)];
+    state.store.guards[third..].fill(last_guard);
     state
 }
 
@@ -84,6 +87,13 @@ fn rich_requests(rng: &mut Prng, last: u32) -> Vec<Request> {
         overlapped,
         outcome,
     };
+    let load = |outcome| Operation::Write {
+        entry,
+        value,
+        guard: OPEN,
+        overlapped: false,
+        outcome,
+    };
     let held = Versioned {
         version: rng.below(last),
         value,
@@ -101,13 +111,16 @@ fn rich_requests(rng: &mut Prng, last: u32) -> Vec<Request> {
         read(Some(held)),
         write(None),
         write(Some(WriteOutcome::Rejected)),
+        load(None),
+        load(Some(WriteOutcome::Committed)),
     ];
     let mut serial = rng.between(301, 400);
     let mut requests = Vec::with_capacity(USED);
-    for operation in operations {
+    for (at, operation) in operations.into_iter().enumerate() {
+        let player = rng.below(8) as u8;
         requests.push(Request {
             serial,
-            player: rng.below(8) as u8,
+            player: if at < LOAD { player } else { LOADER },
             abandoned: false,
             operation,
         });
@@ -116,17 +129,49 @@ fn rich_requests(rng: &mut Prng, last: u32) -> Vec<Request> {
     requests
 }
 
-/// Tables that break this rule and no other.
+/// Tables that break this rule and no other. A serial that is too high is so by little, or is the
+/// number below that of barred.
 pub fn break_rule(rng: &mut Prng, rule: TableRule) -> (Vec<u32>, Vec<u32>) {
+    let (more, by_much) = (rng.below(3), rng.chance(25));
+    break_by(rng, rule, |most| match by_much {
+        true => BARRED - 1,
+        false => most + 1 + more,
+    })
+}
+
+/// The rules of every place where a serial may stand, but for the store's guards.
+pub const SERIAL_RULES: [TableRule; 9] = [
+    TableRule::VersionSerial,
+    TableRule::LastSerial,
+    TableRule::EpochSerial,
+    TableRule::HeldSerial,
+    TableRule::CachedGuardSerial,
+    TableRule::CachedVersionSerial,
+    TableRule::RequestSerial,
+    TableRule::CarriedGuard,
+    TableRule::OutcomeSerial,
+];
+
+/// Tables that break one of [`SERIAL_RULES`] and no other: barred, which document 02 §2 sets in the
+/// store's guards alone, stands where a serial may.
+pub fn bar(rng: &mut Prng, rule: TableRule) -> (Vec<u32>, Vec<u32>) {
+    break_by(rng, rule, |_| BARRED)
+}
+
+/// Tables that break this rule and no other; `above` gives a number above the highest that a serial
+/// may be.
+fn break_by(rng: &mut Prng, rule: TableRule, above: impl Fn(u32) -> u32) -> (Vec<u32>, Vec<u32>) {
     let state = rich_state(rng);
     let (mut store, mut players) = tables_of(&state);
-    let above = state.last_serial + 1 + rng.below(3);
+    let too_high = above(state.last_serial);
     let any_entry = rng.index(256);
     let any_cell = rng.index(2_048);
     let cached = CACHED_ENTRY;
     let empty = CACHED_ENTRY + 1;
     match rule {
-        TableRule::BoundaryBit => store[BOUNDARIES + rng.between(1, 255) as usize] = above.max(2),
+        TableRule::BoundaryBit => {
+            store[BOUNDARIES + rng.between(1, 255) as usize] = too_high.max(2);
+        }
         TableRule::FirstBoundary => store[BOUNDARIES] = 0,
         TableRule::FirstInterval => store[INTERVAL_STARTS] = 1,
         TableRule::IntervalOrder => store[INTERVAL_STARTS + 2] = store[INTERVAL_STARTS + 1],
@@ -139,14 +184,14 @@ pub fn break_rule(rng: &mut Prng, rule: TableRule) -> (Vec<u32>, Vec<u32>) {
             let column = [INTERVAL_STARTS, INTERVAL_GUARDS][rng.index(2)];
             store[column + place] = rng.between(1, 255);
         }
-        TableRule::GuardSerial => store[INTERVAL_GUARDS + rng.index(INTERVALS)] = above,
-        TableRule::VersionSerial => store[VERSIONS + any_entry] = above,
-        TableRule::LastSerial => players[LAST_SERIAL] = MAX_SERIAL + 1 + rng.below(3),
+        TableRule::GuardSerial => store[INTERVAL_GUARDS + rng.index(INTERVALS)] = too_high,
+        TableRule::VersionSerial => store[VERSIONS + any_entry] = too_high,
+        TableRule::LastSerial => players[LAST_SERIAL] = above(MAX_SERIAL),
         TableRule::Owner => players[OWNERS + any_entry] = 9 + rng.below(300),
-        TableRule::EpochSerial => players[EPOCHS + any_entry] = above,
-        TableRule::HeldSerial => players[HELD_GUARDS + any_cell] = above,
-        TableRule::CachedGuardSerial => players[CACHED_GUARDS + any_cell] = above,
-        TableRule::CachedVersionSerial => players[CACHED_VERSIONS + cached] = above,
+        TableRule::EpochSerial => players[EPOCHS + any_entry] = too_high,
+        TableRule::HeldSerial => players[HELD_GUARDS + any_cell] = too_high,
+        TableRule::CachedGuardSerial => players[CACHED_GUARDS + any_cell] = too_high,
+        TableRule::CachedVersionSerial => players[CACHED_VERSIONS + cached] = too_high,
         TableRule::CachedEmpty => {
             let column = [CACHED_VERSIONS, CACHED_VALUES][rng.index(2)];
             players[column + empty] = 1;
@@ -166,9 +211,9 @@ pub fn break_rule(rng: &mut Prng, rule: TableRule) -> (Vec<u32>, Vec<u32>) {
             let second = serial - rng.below(2);
             change(&mut players, GUARD_DELIVERED, |r| r.serial = second);
         }
-        TableRule::RequestSerial => change(&mut players, USED - 1, |r| r.serial = above),
+        TableRule::RequestSerial => change(&mut players, USED - 1, |r| r.serial = too_high),
         TableRule::RequestPlayer => {
-            let player = 8 + rng.below(300);
+            let player = [9, 9 + rng.below(300), 256 + 8][rng.index(3)];
             change(&mut players, rng.index(USED), |r| r.player = player);
         }
         TableRule::RequestKind => {
@@ -183,11 +228,11 @@ pub fn break_rule(rng: &mut Prng, rule: TableRule) -> (Vec<u32>, Vec<u32>) {
             });
         }
         TableRule::RequestEntry => {
-            let place = [READ, READ_DELIVERED, WRITE, WRITE_DELIVERED][rng.index(4)];
+            let place = rng.between(READ as u32, LOAD_DELIVERED as u32) as usize;
             change(&mut players, place, |r| r.low = 256);
         }
         TableRule::RequestHigh => {
-            let place = [READ, READ_DELIVERED, WRITE, WRITE_DELIVERED][rng.index(4)];
+            let place = rng.between(READ as u32, LOAD_DELIVERED as u32) as usize;
             change(&mut players, place, |r| r.high = r.low + 1);
         }
         TableRule::RequestValue => {
@@ -196,39 +241,65 @@ pub fn break_rule(rng: &mut Prng, rule: TableRule) -> (Vec<u32>, Vec<u32>) {
         }
         TableRule::RequestGuard => change(&mut players, rng.index(2), |r| r.guard = 1),
         TableRule::WriteGuard => {
-            let place = [WRITE, WRITE_DELIVERED][rng.index(2)];
-            change(&mut players, place, |r| r.guard = 0);
+            // A player's write that carries 0; a load's words with a player's number.
+            let place = [WRITE, WRITE_DELIVERED, LOAD, LOAD_DELIVERED][rng.index(4)];
+            let player = rng.below(8);
+            change(&mut players, place, |r| (r.player, r.guard) = (player, 0));
         }
         TableRule::CarriedGuard => {
             let place = [READ, READ_DELIVERED, WRITE, WRITE_DELIVERED][rng.index(4)];
-            let more = rng.below(2);
-            change(&mut players, place, |r| r.guard = r.serial + more);
+            change(&mut players, place, |r| r.guard = above(r.serial - 1));
         }
-        TableRule::RequestMark => match rng.below(3) {
+        TableRule::RequestMark => match rng.below(4) {
             0 => change(&mut players, READ, |r| r.overlapped = 2),
             1 => change(&mut players, READ_DELIVERED, |r| r.delivered = 2),
+            2 => change(&mut players, LOAD, |r| r.abandoned = 2),
             _ => change(&mut players, WRITE, |r| r.abandoned = 2),
         },
         TableRule::GuardOverlapped => change(&mut players, rng.index(2), |r| r.overlapped = 1),
         TableRule::AbandonedDelivered => {
-            let place = [GUARD_DELIVERED, READ_DELIVERED, WRITE_DELIVERED][rng.index(3)];
-            change(&mut players, place, |r| r.abandoned = 1);
+            let delivered = [
+                GUARD_DELIVERED,
+                READ_DELIVERED,
+                WRITE_DELIVERED,
+                LOAD_DELIVERED,
+            ];
+            change(&mut players, delivered[rng.index(4)], |r| r.abandoned = 1);
         }
         TableRule::OutcomeEarly => {
-            let place = [GUARD, READ, WRITE][rng.index(3)];
+            let place = [GUARD, READ, WRITE, LOAD][rng.index(4)];
             let number = rng.index(2);
             change(&mut players, place, |r| r.outcome[number] = 1);
         }
         TableRule::OutcomeNumber => {
-            let place = [GUARD_DELIVERED, WRITE_DELIVERED][rng.index(2)];
+            let place = [GUARD_DELIVERED, WRITE_DELIVERED, LOAD_DELIVERED][rng.index(3)];
             let number = [0, 3, 257][rng.index(3)];
             change(&mut players, place, |r| r.outcome[0] = number);
         }
         TableRule::OutcomeSecond => {
-            let place = [GUARD_DELIVERED, WRITE_DELIVERED][rng.index(2)];
+            let place = [GUARD_DELIVERED, WRITE_DELIVERED, LOAD_DELIVERED][rng.index(3)];
             change(&mut players, place, |r| r.outcome[1] = 1);
         }
-        TableRule::OutcomeSerial => change(&mut players, READ_DELIVERED, |r| r.outcome[0] = above),
+        TableRule::OutcomeSerial => {
+            change(&mut players, READ_DELIVERED, |r| r.outcome[0] = too_high);
+        }
+        TableRule::LoadKind => {
+            let place = [GUARD, GUARD_DELIVERED, READ, READ_DELIVERED][rng.index(4)];
+            change(&mut players, place, |r| {
+                (r.player, r.guard, r.overlapped) = (8, 0, 0);
+            });
+        }
+        TableRule::LoadGuard => {
+            // A load that carries a guard; a player's write with the loader's number.
+            let place = [WRITE, WRITE_DELIVERED, LOAD, LOAD_DELIVERED][rng.index(4)];
+            change(&mut players, place, |r| {
+                (r.player, r.guard, r.overlapped) = (8, r.guard.max(1), 0);
+            });
+        }
+        TableRule::LoadOverlapped => {
+            let place = [LOAD, LOAD_DELIVERED][rng.index(2)];
+            change(&mut players, place, |r| r.overlapped = 1);
+        }
     }
     (store, players)
 }

@@ -1,12 +1,12 @@
-//! Demand 3, tested on a finished history: every sentence of it, and every sentence of the closing
-//! paragraph of "The line".
+//! Demand 3, tested on a finished history: every sentence of it, every sentence of the closing
+//! paragraph of "The line", and what document 02 §2 says of all histories.
 
 use std::collections::BTreeMap;
 
 use calls::{Range, Reply, Step};
 
 use crate::ledger::{Ledger, OperationId, Placed};
-use crate::numbers::{Entries, ENTRIES};
+use crate::numbers::{Entries, ENTRIES, LOADER, OPEN};
 use crate::reply::code;
 use crate::store::{Store, Versioned};
 
@@ -19,7 +19,7 @@ pub struct Event {
     pub reply: Reply,
 }
 
-/// A sentence of demand 3, or of the closing paragraph of "The line".
+/// A sentence of demand 3, of the closing paragraph of "The line", or of document 02 §2.
 #[derive(Clone, Copy, Debug, PartialEq, Eq, Hash, PartialOrd, Ord)]
 pub enum Sentence {
     /// "All its answered reads and all its writes that took effect stand in one line"; "each
@@ -46,6 +46,8 @@ pub enum Sentence {
     AbandonedAfterGrant,
     /// "A read served from memory gave what the store held at that step."
     MemoryRead,
+    /// Document 02 §2: "an entry once guarded or restarted is never open again".
+    NeverOpenAgain,
     /// "the ledger's borders, guards, stamps and values are the tables'": the boundaries.
     Boundaries,
     /// The same: the guards.
@@ -94,6 +96,8 @@ struct Gathered {
     by_id: BTreeMap<OperationId, usize>,
     guard_requests: BTreeMap<u32, (Range, usize)>,
     grants: Vec<Grant>,
+    /// The step at which each entry was first guarded or restarted.
+    closed: [Option<usize>; ENTRIES],
     ledger: Ledger,
 }
 
@@ -106,6 +110,7 @@ pub fn check(history: &[Event], store: &Store) -> Result<(), Violation> {
     check_real_time(&gathered, &order)?;
     check_last_write(&gathered, &order)?;
     check_abandoned(&gathered, &order)?;
+    check_closed(&gathered, &order, store, history.len())?;
     check_tables(&gathered.ledger.store, store, history.len())
 }
 
@@ -120,6 +125,7 @@ fn gather(history: &[Event]) -> Result<Gathered, Violation> {
         by_id: BTreeMap::new(),
         guard_requests: BTreeMap::new(),
         grants: Vec::new(),
+        closed: [None; ENTRIES],
         ledger: Ledger::new(),
     };
     for (at, &Event { step, reply }) in history.iter().enumerate() {
@@ -137,6 +143,15 @@ fn gather(history: &[Event]) -> Result<Gathered, Violation> {
             } if reply.code == code::ISSUED => {
                 let id = OperationId::Serial(reply.a);
                 gathered.begin(id, player, entry, Some(value), at);
+            }
+            // Document 02 §2: "In the line a load is a write like another".
+            Step::Load { entry, value } if reply.code == code::ISSUED => {
+                let id = OperationId::Serial(reply.a);
+                gathered.begin(id, LOADER, entry, Some(value), at);
+            }
+            Step::Deliver { serial } if reply.code == code::DONE => gathered.guard(serial, at),
+            Step::RestartTablet { entry } if reply.code == code::DONE => {
+                gathered.close(gathered.ledger.store.tablet(entry), at);
             }
             Step::Read { player, entry } if reply.code == code::FROM_MEMORY => {
                 let held = gathered.ledger.store.read(entry);
@@ -185,6 +200,22 @@ impl Gathered {
             places: Vec::new(),
         });
         &mut self.operations[index]
+    }
+
+    /// A request that arrives: the entries of a guard request in one tablet are guarded.
+    fn guard(&mut self, serial: u32, at: usize) {
+        if let Some(&(range, _)) = self.guard_requests.get(&serial) {
+            if self.ledger.store.in_one_tablet(range) {
+                self.close(range.entries(), at);
+            }
+        }
+    }
+
+    /// These entries are guarded or restarted at this step.
+    fn close(&mut self, entries: std::ops::Range<usize>, at: usize) {
+        for closed in &mut self.closed[entries] {
+            closed.get_or_insert(at);
+        }
     }
 
     /// Replies 3 to 5 answer a read or write, reply 6 grants a guard.
@@ -335,6 +366,28 @@ fn check_abandoned(gathered: &Gathered, order: &[Placed]) -> Result<(), Violatio
         require(!too_late, Sentence::AbandonedAfterGrant, effect)?;
     }
     Ok(())
+}
+
+/// Document 02 §2: "an entry once guarded or restarted is never open again": the tables have another
+/// guard for it, and no load takes effect on it any more. By the ledger's boundaries alone, not by its
+/// guards.
+fn check_closed(
+    gathered: &Gathered,
+    order: &[Placed],
+    tables: &Store,
+    steps: usize,
+) -> Result<(), Violation> {
+    for placed in order {
+        let load = gathered
+            .operation(placed)
+            .is_some_and(|o| o.player == LOADER);
+        let closed = gathered.closed[usize::from(placed.entry)];
+        let after = closed.is_some_and(|closed| closed < placed.step);
+        require(!(load && after), Sentence::NeverOpenAgain, placed.step)?;
+    }
+    let mut entries = gathered.closed.iter().zip(tables.guards);
+    let open = entries.any(|(closed, guard)| closed.is_some() && guard == OPEN);
+    require(!open, Sentence::NeverOpenAgain, steps)
 }
 
 /// "the ledger's borders, guards, stamps and values are the tables'"

@@ -63,8 +63,7 @@ pub enum Fault {
     CacheHitIgnoresLiveness,
     /// Step 5 does not empty the cached value.
     WriteKeepsCachedValue,
-    /// Step 5 takes a write without a live guard, carrying 0, and the store commits it at an
-    /// entry with guard 0.
+    /// Step 5 takes a write without a live guard, carrying 0, as a load does.
     UnguardedWrite,
     /// A guard is set over a range that a boundary divides.
     GuardSetAcrossBoundary,
@@ -80,7 +79,7 @@ pub enum Fault {
     AbandonedDeliveredTwice,
     /// Step 12 does nothing.
     RestartTabletKeepsGuards,
-    /// Step 10 makes the guards of the tablet 0.
+    /// Step 10 bars the tablet.
     SplitRestartsTablet,
     /// Step 13 abandons the requests and clears nothing.
     RestartPlayerKeepsGuards,
@@ -90,8 +89,6 @@ pub enum Fault {
     RequestKeepsGuards,
     /// Step 7 grants whatever the epochs say; the test for a live guard is right.
     GrantIgnoresEpochs,
-    /// The store commits a write that carries 0 at an entry with guard 0; step 5 is right.
-    ZeroGuardCommits,
     /// Step 7 leaves the guards after a rejected write.
     RejectedKeepsGuards,
     /// "a player that never remembers, which demand 3 would let by"
@@ -104,17 +101,58 @@ pub enum Fault {
     IntervalEndsEarly,
     /// The entry after a guard interval is given for its last, as a range's high.
     IntervalEndsBehind,
-    /// An entry with guard 0 is a guard interval by itself.
-    UnguardedAlone,
+    /// An open entry is a guard interval by itself.
+    OpenAlone,
     /// The store used alone finds a guard interval, and gives 0 for its guard.
     IntervalWithoutGuard,
     /// Step 14 takes a serial, where one is left.
     IntervalTakesSerial,
+    /// "which 0 never does", as before document 02 §2: an open guard does not match a carried 0.
+    OpenMatchesNothing,
+    /// A load commits at a barred entry too: barred matches a carried 0.
+    BarredMatchesOpen,
+    /// The store used alone commits a write that carries the number of barred at a barred entry.
+    BarredMatches,
+    /// "become 0", as before document 02 §2: a tablet restart leaves the entries open.
+    RestartOpens,
+    /// A tablet restart bars the entries that have a guard, and leaves the open ones open.
+    RestartKeepsOpen,
+    /// A barred entry is a guard interval by itself.
+    BarredAlone,
+    /// "needing no ownership": a load needs owner 8, which is nobody.
+    LoadNeedsOwnership,
+    /// A load is refused where the entry is not open, before it is sent.
+    LoadNeedsOpenGuard,
+    /// A load tests 34 before 33.
+    LoadSerialFirst,
+    /// "carrying 0": a load carries the store's guard of the entry.
+    LoadCarriesGuard,
+    /// "It is never overlapped": a load is, where a write or another load on the entry waits.
+    LoadOverlapped,
+    /// "It is never overlapped": a player's write marks the waiting loads on the entry.
+    WriteMarksLoads,
+    /// "marks no row": a load marks the players' waiting reads and writes on the entry.
+    LoadMarksRequests,
+    /// "marks no row": a read or write of a player is overlapped where a load on the entry waits.
+    LoadOverlapsRequests,
+    /// "no guard or cell follows from it": a load empties the players' cells, as a write its player's.
+    LoadEmptiesCells,
+    /// "no guard or cell follows from it": the entry's owner remembers an answer 4 to a load under the
+    /// guard that it has.
+    LoadCached,
+    /// "no guard or cell follows from it": an answer 5 to a load clears the guard of the entry's owner.
+    RejectedLoadClears,
+    /// The same where a load is given up.
+    AbandonedLoadClears,
+    /// Step 13 gives up the waiting loads with the player's requests.
+    RestartPlayerAbandonsLoads,
+    /// Step 13 takes player 8, and gives up the waiting loads.
+    LoaderRestarts,
 }
 
 impl Fault {
     /// Every fault.
-    pub const ALL: [Fault; 35] = [
+    pub const ALL: [Fault; 54] = [
         Fault::ReadBesideWriteCached,
         Fault::LateGuardGranted,
         Fault::AbandonKeepsGuards,
@@ -140,16 +178,35 @@ impl Fault {
         Fault::RestartPlayerKeepsWrites,
         Fault::RequestKeepsGuards,
         Fault::GrantIgnoresEpochs,
-        Fault::ZeroGuardCommits,
         Fault::RejectedKeepsGuards,
         Fault::NeverCaches,
         Fault::IntervalCutToTablet,
         Fault::IntervalBeginsLate,
         Fault::IntervalEndsEarly,
         Fault::IntervalEndsBehind,
-        Fault::UnguardedAlone,
+        Fault::OpenAlone,
         Fault::IntervalWithoutGuard,
         Fault::IntervalTakesSerial,
+        Fault::OpenMatchesNothing,
+        Fault::BarredMatchesOpen,
+        Fault::BarredMatches,
+        Fault::RestartOpens,
+        Fault::RestartKeepsOpen,
+        Fault::BarredAlone,
+        Fault::LoadNeedsOwnership,
+        Fault::LoadNeedsOpenGuard,
+        Fault::LoadSerialFirst,
+        Fault::LoadCarriesGuard,
+        Fault::LoadOverlapped,
+        Fault::WriteMarksLoads,
+        Fault::LoadMarksRequests,
+        Fault::LoadOverlapsRequests,
+        Fault::LoadEmptiesCells,
+        Fault::LoadCached,
+        Fault::RejectedLoadClears,
+        Fault::AbandonedLoadClears,
+        Fault::RestartPlayerAbandonsLoads,
+        Fault::LoaderRestarts,
     ];
 
     /// Whether some list of steps breaks demand 3 with this fault. The others change replies or
@@ -162,34 +219,55 @@ impl Fault {
     ///   new one is held only after that.
     /// - `GrantIgnoresEpochs`: a guard granted late has a serial below the epoch, so it is not
     ///   live; the two tests guard the same case.
-    /// - `ZeroGuardCommits`: step 5 sends no write that carries 0, and a table with one breaks
-    ///   a rule. Only the store used alone shows it.
     /// - `RejectedKeepsGuards`: a guard once replaced at the store never comes back there, so
     ///   the writes under it are rejected for ever and what is cached stays right.
     /// - `NeverCaches`: demand 3 asks no read to be served from memory.
     /// - `IntervalCutToTablet`, `IntervalBeginsLate`, `IntervalEndsEarly`, `IntervalEndsBehind`,
-    ///   `UnguardedAlone`: document 02 §1, step 14 "is neither read nor write in the line", so its
+    ///   `OpenAlone`, `BarredAlone`: document 02 §1, step 14 "is neither read nor write in the line", so its
     ///   two numbers are in no sentence of it.
     /// - `IntervalWithoutGuard`: the same, and its guard is not even in the reply of step 14. Only
     ///   the store used alone shows it.
     /// - `IntervalTakesSerial`: a serial that nothing gets leaves a gap, and no sentence of demand 3
     ///   is about gaps.
+    /// - `BarredMatches`: no step sends a write that carries the number of barred, and a table with
+    ///   one breaks a rule. Only the store used alone shows it.
+    /// - `LoadNeedsOwnership`, `LoadNeedsOpenGuard`, `LoadSerialFirst`: a refused step changes nothing
+    ///   in the line.
+    /// - `LoadOverlapped`, `WriteMarksLoads`: the mark keeps an answer from being remembered, and a
+    ///   load's never is.
+    /// - `LoadMarksRequests`, `LoadOverlapsRequests`, `LoadEmptiesCells`, `RejectedLoadClears`,
+    ///   `AbandonedLoadClears`: less is remembered, which is the safe side.
+    /// - `RestartPlayerAbandonsLoads`, `LoaderRestarts`: a load that is given up may still arrive, and
+    ///   demand 3 asks no write to be answered.
     pub fn breaks_demand_3(self) -> bool {
         !matches!(
             self,
             Fault::RestartPlayerKeepsWrites
                 | Fault::RequestKeepsGuards
                 | Fault::GrantIgnoresEpochs
-                | Fault::ZeroGuardCommits
                 | Fault::RejectedKeepsGuards
                 | Fault::NeverCaches
                 | Fault::IntervalCutToTablet
                 | Fault::IntervalBeginsLate
                 | Fault::IntervalEndsEarly
                 | Fault::IntervalEndsBehind
-                | Fault::UnguardedAlone
+                | Fault::OpenAlone
                 | Fault::IntervalWithoutGuard
                 | Fault::IntervalTakesSerial
+                | Fault::BarredMatches
+                | Fault::BarredAlone
+                | Fault::LoadNeedsOwnership
+                | Fault::LoadNeedsOpenGuard
+                | Fault::LoadSerialFirst
+                | Fault::LoadOverlapped
+                | Fault::WriteMarksLoads
+                | Fault::LoadMarksRequests
+                | Fault::LoadOverlapsRequests
+                | Fault::LoadEmptiesCells
+                | Fault::RejectedLoadClears
+                | Fault::AbandonedLoadClears
+                | Fault::RestartPlayerAbandonsLoads
+                | Fault::LoaderRestarts
         )
     }
 }

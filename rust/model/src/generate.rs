@@ -30,7 +30,7 @@ pub struct Profile {
     stray: u32,
     /// In how many of 100 cases the newest request is delivered or answered at once.
     prompt: u32,
-    /// In how many of 100 cases a write is abandoned at once.
+    /// In how many of 100 cases a write or load is abandoned at once.
     timeouts: u32,
     /// In how many of 100 cases a delivery is followed by a read.
     reads: u32,
@@ -77,7 +77,7 @@ enum Taken {
 
 /// How often each kind is drawn before a profile changes it; those after the last that stands here as often as it.
 const WEIGHTS: [u32; KINDS as usize] = {
-    let first = [8, 1, 20, 40, 40, 80, 80, 12, 5, 2, 3, 2, 2, 6];
+    let first = [8, 1, 20, 40, 40, 80, 80, 12, 5, 2, 3, 2, 2, 6, 12];
     let mut weights = [first[first.len() - 1]; KINDS as usize];
     let mut at = 0;
     while at < first.len() {
@@ -142,13 +142,15 @@ impl Profile {
         step
     }
 
-    /// Now and then a step that follows from the one before: a write is abandoned at once; the
+    /// Now and then a step that follows from the one before: a write or load is abandoned at once; the
     /// player then reads, asks for a guard or gets another answer; a delivery is followed by a
     /// read; the newest request is delivered or answered.
     fn follow_up(&self, rng: &mut Prng, state: &State) -> Option<Step> {
         let newest = state.requests.last().filter(|r| r.is_pending());
         match (self.previous, newest) {
-            (Some(Step::Write { .. }), Some(newest)) if rng.chance(self.timeouts) => {
+            (Some(Step::Write { .. } | Step::Load { .. }), Some(newest))
+                if rng.chance(self.timeouts) =>
+            {
                 Some(Step::Abandon {
                     serial: newest.serial,
                 })
@@ -258,6 +260,10 @@ impl Profile {
             },
             9 => Step::Lose {
                 serial: self.serial(rng, state, |r| r.abandoned)?,
+            },
+            15 => Step::Load {
+                entry,
+                value: rng.between(1, 9),
             },
             kind => Step::of_its_fields(Fields {
                 kind,

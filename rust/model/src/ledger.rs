@@ -8,11 +8,11 @@ use std::collections::BTreeMap;
 use calls::{Range, Reply, Step};
 
 use crate::faults::NoFault;
-use crate::numbers::{Entries, ENTRIES, PLAYERS};
+use crate::numbers::{Entries, ENTRIES, OPEN, PLAYERS};
 use crate::reply::code;
 use crate::store::{Store, Versioned, WriteOutcome};
 
-/// "Steps 3, 4 and 5 with reply 1 are noted under their serial".
+/// "Steps 3, 4 and 5 with reply 1 are noted under their serial", and loads as writes (document 02 §2).
 #[derive(Clone, Copy, Debug, PartialEq, Eq)]
 enum Note {
     Guard { player: u8, range: Range },
@@ -79,7 +79,10 @@ impl Ledger {
     pub fn feed(&mut self, step: Step, reply: Reply) {
         let done = reply.code == code::DONE;
         match step {
-            Step::RequestGuard { .. } | Step::Read { .. } | Step::Write { .. }
+            Step::RequestGuard { .. }
+            | Step::Read { .. }
+            | Step::Write { .. }
+            | Step::Load { .. }
                 if reply.code == code::ISSUED =>
             {
                 self.note(step, reply.a);
@@ -104,7 +107,7 @@ impl Ledger {
 
     /// "Steps 3, 4 and 5 with reply 1 are noted under their serial, a write with the guard it
     /// carries: the serial of the last reply 6 to its player for a range with that entry, 0 if
-    /// none."
+    /// none." Document 02 §2: "In the line a load is a write like another", "carrying 0".
     fn note(&mut self, step: Step, serial: u32) {
         let note = match step {
             Step::RequestGuard { player, range } => Note::Guard { player, range },
@@ -120,6 +123,11 @@ impl Ledger {
                     .granted
                     .get(usize::from(player))
                     .map_or(0, |granted| granted[usize::from(entry)]),
+            },
+            Step::Load { entry, value } => Note::Write {
+                entry,
+                value,
+                guard: OPEN,
             },
             _ => return,
         };

@@ -1,4 +1,4 @@
-//! Document 01's numbers, and the entries of a range.
+//! The numbers of documents 01 and 02, and the entries of a range.
 
 use calls::Range;
 
@@ -8,10 +8,18 @@ pub const ENTRIES: usize = 256;
 pub const PLAYERS: usize = 8;
 /// "its owner (0 to 7, or 8 for nobody)"
 pub const NOBODY: u8 = 8;
+/// Document 02 §2: "a row of kind 5 whose player is 8". As a request's player 8 is the loader, as an
+/// owner it is nobody: an entry that nobody owns is not the loader's.
+pub const LOADER: u8 = 8;
 /// "up to 64 rows in flight"
 pub const MAX_REQUESTS: usize = 64;
 /// "One count of serials, 0 when fresh, last usable 4,000,000"
 pub const MAX_SERIAL: u32 = 4_000_000;
+/// Document 02 §2: "guard 0 is open and matches a carried 0".
+pub const OPEN: u32 = 0;
+/// Document 02 §2: "a restart sets a new mark, barred, that matches nothing. Barred differs from 0 and
+/// from every serial". It stands in the store's guards alone.
+pub const BARRED: u32 = 4_294_967_295;
 
 /// "Ranges run from low up to, not including, high (1 to 256)." The fields have the widths of a
 /// record, so a range that is read may break that rule; [`Entries::is_valid`] tells.

@@ -2,7 +2,7 @@
 
 use calls::Range;
 
-use crate::numbers::{Entries, PLAYERS};
+use crate::numbers::{Entries, LOADER, OPEN};
 use crate::state::{Operation, Request};
 use crate::store::{GuardOutcome, Versioned, WriteOutcome};
 use crate::table_rules::{bit, require, TableRule};
@@ -65,10 +65,10 @@ impl RequestWords {
     }
 }
 
-/// A word that is a player's number.
+/// A word that is a player's number, or the loader's.
 fn player_number(word: u32) -> Result<u8, TableRule> {
     match u8::try_from(word) {
-        Ok(player) if usize::from(player) < PLAYERS => Ok(player),
+        Ok(player) if player <= LOADER => Ok(player),
         _ => Err(TableRule::RequestPlayer),
     }
 }
@@ -90,7 +90,9 @@ pub(crate) fn decode_request(words: RequestWords, last_serial: u32) -> Result<Re
         delivered || words.outcome == [0, 0],
         TableRule::OutcomeEarly,
     )?;
+    let is_load = player == LOADER;
     let operation = match words.kind {
+        3 | 4 if is_load => return Err(TableRule::LoadKind),
         3 => {
             let range = decode_range(words)?;
             require(words.value == 0, TableRule::RequestValue)?;
@@ -118,7 +120,12 @@ pub(crate) fn decode_request(words: RequestWords, last_serial: u32) -> Result<Re
         }
         5 => {
             let entry = decode_entry(words)?;
-            require(words.guard != 0, TableRule::WriteGuard)?;
+            if is_load {
+                require(words.guard == OPEN, TableRule::LoadGuard)?;
+                require(!overlapped, TableRule::LoadOverlapped)?;
+            } else {
+                require(words.guard != 0, TableRule::WriteGuard)?;
+            }
             let outcome = decode_outcome(
                 delivered,
                 words,

@@ -1,4 +1,5 @@
-//! The steps on a state that keeps the table rules: those of document 01, and kind 14 of document 02.
+//! The steps on a state that keeps the table rules: those of document 01, and kinds 14 and 15 of
+//! document 02.
 //!
 //! "For a step: 21, 22, 28, 29, 30, 31, 32, 35, 33, 34." The first two belong to the tables of
 //! words (see `tables`); the others are tested here in this order, and a refused step changes
@@ -7,7 +8,9 @@
 use calls::{bit, Fields, Range, Reply, Step, KINDS};
 
 use crate::faults::{Fault, NoFault, Switches};
-use crate::numbers::{Entries, ENTRIES, MAX_REQUESTS, MAX_SERIAL, NOBODY, PLAYERS};
+use crate::numbers::{
+    Entries, BARRED, ENTRIES, LOADER, MAX_REQUESTS, MAX_SERIAL, NOBODY, OPEN, PLAYERS,
+};
 use crate::reply::{code, Refusal};
 use crate::state::{Cached, Operation, Request, State};
 use crate::store::{GuardOutcome, Versioned, WriteOutcome};
@@ -23,8 +26,8 @@ pub fn step_with(state: &mut State, step: Step, faults: &impl Switches) -> Reply
 }
 
 /// What each kind of step can reply, kind 1 first, but for 21 and 22: "Step 1 to 5 give 1 unless
-/// read from memory; 7 gives 3 to 8; the rest 0", and "Who can cause a refusal"; of kind 14, document
-/// 02 §1.
+/// read from memory; 7 gives 3 to 8; the rest 0", and "Who can cause a refusal"; of kinds 14 and 15,
+/// document 02 §1 and §2.
 pub const REPLIES: [&[u32]; KINDS as usize] = [
     // "1 assign, 2 release: take a serial": 1; 28 player, range; 34. They test no owner.
     &[1, 28, 34],
@@ -47,9 +50,15 @@ pub const REPLIES: [&[u32]; KINDS as usize] = [
     &[0, 28],
     // Document 02 §1: "replies 9 with first and last entry". Every entry has a guard, 0 or another.
     &[9],
+    // Document 02 §2: "a load, reply 1: a row"; "needing no ownership", so no 29.
+    &[1, 33, 34],
 ];
 
 fn perform(state: &mut State, step: Step, faults: &impl Switches) -> Result<Reply, Refusal> {
+    if step == (Step::RestartPlayer { player: LOADER }) && faults.has(Fault::LoaderRestarts) {
+        give_up(state, LOADER, faults);
+        return Ok(Reply::DONE);
+    }
     test_numbers(step)?;
     match step {
         Step::Assign { player, range } => set_owner(state, player, range),
@@ -71,8 +80,9 @@ fn perform(state: &mut State, step: Step, faults: &impl Switches) -> Result<Repl
             state.store.restart(entry, faults);
             Ok(Reply::DONE)
         }
-        Step::RestartPlayer { player } => restart_player(state, player, faults),
+        Step::RestartPlayer { player } => Ok(restart_player(state, player, faults)),
         Step::FindInterval { entry } => Ok(find_interval(state, entry, faults)),
+        Step::Load { entry, value } => load(state, entry, value, faults),
     }
 }
 
@@ -220,14 +230,11 @@ fn read(
         return Ok(Reply::new(code::FROM_MEMORY, cached.version, cached.value));
     }
     let serial = next_request(state)?;
-    let overlapped = state
-        .requests
-        .iter()
-        .any(|r| r.player == player && r.is_pending() && r.writes(entry));
+    let beside = write_pending(state, player, entry, faults);
     let operation = Operation::Read {
         entry,
         guard: live.unwrap_or(0),
-        overlapped: overlapped && !faults.has(Fault::ReadBesideWriteCached),
+        overlapped: beside && !faults.has(Fault::ReadBesideWriteCached),
         outcome: None,
     };
     Ok(send(state, serial, player, operation))
@@ -255,7 +262,9 @@ fn write(
     if !faults.has(Fault::WriteKeepsCachedValue) {
         state.cached[usize::from(player)][usize::from(entry)] = Cached::EMPTY;
     }
-    let crosses = mark_overlapped(state, player, entry, faults);
+    let crosses = write_pending(state, player, entry, faults);
+    let its = |r: &Request| r.player == player || r.is_load() && faults.has(Fault::WriteMarksLoads);
+    mark_overlapped(state, its, entry, faults);
     let operation = Operation::Write {
         entry,
         value,
@@ -266,11 +275,24 @@ fn write(
     Ok(send(state, serial, player, operation))
 }
 
-/// Marks "this player's waiting reads and writes on the entry overlapped"; whether "one of them
-/// was a write".
-fn mark_overlapped(state: &mut State, player: u8, on: u8, faults: &impl Switches) -> bool {
-    let mut crosses = false;
-    let pending = |r: &&mut Request| r.player == player && r.is_pending();
+/// Whether "a write by this player on this entry waits". A load is by no player.
+fn write_pending(state: &State, player: u8, entry: u8, faults: &impl Switches) -> bool {
+    let its =
+        |r: &Request| r.player == player || r.is_load() && faults.has(Fault::LoadOverlapsRequests);
+    state
+        .requests
+        .iter()
+        .any(|r| its(r) && r.is_pending() && r.writes(entry))
+}
+
+/// Marks waiting "reads and writes on the entry overlapped", of "this player".
+fn mark_overlapped(
+    state: &mut State,
+    its: impl Fn(&Request) -> bool,
+    on: u8,
+    faults: &impl Switches,
+) {
+    let pending = |r: &&mut Request| its(r) && r.is_pending();
     for request in state.requests.iter_mut().filter(pending) {
         match &mut request.operation {
             Operation::Read {
@@ -282,12 +304,10 @@ fn mark_overlapped(state: &mut State, player: u8, on: u8, faults: &impl Switches
                 entry, overlapped, ..
             } if *entry == on => {
                 *overlapped |= !faults.has(Fault::CrossedWriteCached);
-                crosses = true;
             }
             _ => {}
         }
     }
-    crosses
 }
 
 /// The place of the request that a step fits, else "32 no row that this step fits". Serials are
@@ -367,29 +387,27 @@ fn respond(state: &mut State, serial: u32, faults: &impl Switches) -> Result<Rep
             value,
             guard,
             overlapped,
-            outcome: Some(WriteOutcome::Committed),
+            outcome: Some(outcome),
         } => {
             let answer = Cached {
                 guard,
                 version: serial,
                 value,
             };
-            cache(state, player, entry, overlapped, answer, faults);
-            Ok(Reply::new(code::COMMITTED, serial, value))
-        }
-        Operation::Write {
-            value,
-            guard,
-            outcome: Some(WriteOutcome::Rejected),
-            ..
-        } => {
-            if !faults.has(Fault::RejectedKeepsGuards) {
-                clear_guard(state, player, guard);
+            match outcome {
+                // Document 02 §2, of a load: "Its answer is 4 or 5 and no guard or cell follows from
+                // it."
+                _ if player == LOADER => mistaken_load(state, entry, answer, outcome, faults),
+                WriteOutcome::Committed => cache(state, player, entry, overlapped, answer, faults),
+                WriteOutcome::Rejected if faults.has(Fault::RejectedKeepsGuards) => {}
+                WriteOutcome::Rejected => clear_guard(state, player, guard),
             }
-            if faults.has(Fault::RejectedAnsweredCommitted) {
-                return Ok(Reply::new(code::COMMITTED, serial, value));
+            match outcome {
+                WriteOutcome::Rejected if !faults.has(Fault::RejectedAnsweredCommitted) => {
+                    Ok(Reply::new(code::REJECTED, serial, 0))
+                }
+                _ => Ok(Reply::new(code::COMMITTED, serial, value)),
             }
-            Ok(Reply::new(code::REJECTED, serial, 0))
         }
         Operation::Guard { outcome: None, .. }
         | Operation::Read { outcome: None, .. }
@@ -440,8 +458,32 @@ fn cache(
     }
 }
 
+/// What faults make follow, for the entry's owner, from the answer to a load.
+fn mistaken_load(
+    state: &mut State,
+    entry: u8,
+    answer: Cached,
+    outcome: WriteOutcome,
+    faults: &impl Switches,
+) {
+    let at = usize::from(entry);
+    let owner = state.owners[at];
+    if owner == NOBODY {
+        return;
+    }
+    let guard = state.held[usize::from(owner)][at];
+    match outcome {
+        WriteOutcome::Committed if faults.has(Fault::LoadCached) && guard != 0 => {
+            state.cached[usize::from(owner)][at] = Cached { guard, ..answer };
+        }
+        WriteOutcome::Rejected if faults.has(Fault::RejectedLoadClears) => clear(state, owner, at),
+        _ => {}
+    }
+}
+
 /// "8 give up: an arrived row leaves, another is marked. For a write the clearing is the same." A
-/// row "8 waiting" is needed.
+/// row "8 waiting" is needed. Document 02 §2: from a load "no guard or cell follows", so giving it up
+/// clears nothing.
 fn abandon(state: &mut State, serial: u32, faults: &impl Switches) -> Result<Reply, Refusal> {
     let place = find(state, serial, Request::is_pending)?;
     let request = state.requests[place];
@@ -450,10 +492,17 @@ fn abandon(state: &mut State, serial: u32, faults: &impl Switches) -> Result<Rep
     } else {
         state.requests[place].abandoned = true;
     }
-    if let Operation::Write { guard, .. } = request.operation {
-        if !faults.has(Fault::AbandonKeepsGuards) {
+    match request.operation {
+        Operation::Write { entry, .. } if request.is_load() => {
+            let owner = state.owners[usize::from(entry)];
+            if owner != NOBODY && faults.has(Fault::AbandonedLoadClears) {
+                clear(state, owner, usize::from(entry));
+            }
+        }
+        Operation::Write { guard, .. } if !faults.has(Fault::AbandonKeepsGuards) => {
             clear_guard(state, request.player, guard);
         }
+        _ => {}
     }
     Ok(Reply::DONE)
 }
@@ -466,24 +515,32 @@ fn lose(state: &mut State, serial: u32) -> Result<Reply, Refusal> {
 }
 
 /// "13 player restart: its guards and cells are cleared, its waiting rows given up as in step 8."
-fn restart_player(state: &mut State, player: u8, faults: &impl Switches) -> Result<Reply, Refusal> {
+fn restart_player(state: &mut State, player: u8, faults: &impl Switches) -> Reply {
     if !faults.has(Fault::RestartPlayerKeepsGuards) {
         for entry in 0..ENTRIES {
             clear(state, player, entry);
         }
     }
+    give_up(state, player, faults);
+    Reply::DONE
+}
+
+/// "its waiting rows given up as in step 8": those of this player, and no load.
+fn give_up(state: &mut State, player: u8, faults: &impl Switches) {
     let kept = |r: &Request| {
         matches!(r.operation, Operation::Write { .. })
             && faults.has(Fault::RestartPlayerKeepsWrites)
     };
-    let given_up = |r: &Request| r.player == player && r.is_pending() && !kept(r);
+    let its = |r: &Request| {
+        r.player == player || r.is_load() && faults.has(Fault::RestartPlayerAbandonsLoads)
+    };
+    let given_up = |r: &Request| its(r) && r.is_pending() && !kept(r);
     state
         .requests
         .retain(|r| !(given_up(r) && r.is_delivered()));
     for request in &mut state.requests {
         request.abandoned |= given_up(request);
     }
-    Ok(Reply::DONE)
 }
 
 /// Document 02 §1: "A step of kind 14, map 05, replies 9 with first and last entry and alters
@@ -494,4 +551,71 @@ fn find_interval(state: &mut State, entry: u8, faults: &impl Switches) -> Reply 
         state.last_serial = next_serial(state).unwrap_or(MAX_SERIAL);
     }
     Reply::new(code::INTERVAL, found.first as u32, found.last as u32)
+}
+
+/// Document 02 §2: "Kind 15 (entry and value, map 15 hexadecimal) is a load, reply 1: a row of kind 5
+/// whose player is 8, carrying 0, needing no ownership. It is never overlapped and marks no row." So
+/// it is refused for want of a place or a serial alone: 33, then 34.
+fn load(
+    state: &mut State,
+    entry: u8,
+    value: u32,
+    faults: &impl Switches,
+) -> Result<Reply, Refusal> {
+    mistaken_test(state, entry, faults)?;
+    let serial = next_request(state)?;
+    let mut operation = Operation::Write {
+        entry,
+        value,
+        guard: OPEN,
+        overlapped: false,
+        outcome: None,
+    };
+    mistaken_sending(state, &mut operation, faults);
+    Ok(send(state, serial, LOADER, operation))
+}
+
+/// What faults test before a load is sent.
+fn mistaken_test(state: &State, entry: u8, faults: &impl Switches) -> Result<(), Refusal> {
+    let at = usize::from(entry);
+    // The loader's number taken for an owner's: it owns what nobody does.
+    if faults.has(Fault::LoadNeedsOwnership) && state.owners[at] != LOADER {
+        return Err(Refusal::NotOwner);
+    }
+    if faults.has(Fault::LoadNeedsOpenGuard) && state.store.guards[at] != OPEN {
+        return Err(Refusal::NoLiveGuard);
+    }
+    if faults.has(Fault::LoadSerialFirst) {
+        next_serial(state)?;
+    }
+    Ok(())
+}
+
+/// What faults make of a load that is sent, and of what stands beside it.
+fn mistaken_sending(state: &mut State, load: &mut Operation, faults: &impl Switches) {
+    let Operation::Write {
+        entry,
+        guard,
+        overlapped,
+        ..
+    } = load
+    else {
+        return;
+    };
+    let at = usize::from(*entry);
+    if faults.has(Fault::LoadCarriesGuard) && state.store.guards[at] != BARRED {
+        *guard = state.store.guards[at];
+    }
+    if faults.has(Fault::LoadOverlapped) {
+        let crossed = |r: &Request| r.is_pending() && r.writes(*entry);
+        *overlapped = state.requests.iter().any(crossed);
+    }
+    if faults.has(Fault::LoadMarksRequests) {
+        mark_overlapped(state, |r| !r.is_load(), *entry, faults);
+    }
+    if faults.has(Fault::LoadEmptiesCells) {
+        for cached in &mut state.cached {
+            cached[at] = Cached::EMPTY;
+        }
+    }
 }

@@ -2,7 +2,7 @@
 
 use calls::Range;
 
-use crate::numbers::{ENTRIES, NOBODY, PLAYERS};
+use crate::numbers::{ENTRIES, LOADER, NOBODY, PLAYERS};
 use crate::store::{GuardOutcome, Store, Versioned, WriteOutcome};
 
 /// "a remembered cell (guard, stamp, value), guard 0 meaning empty and then all zeros"
@@ -44,7 +44,8 @@ pub enum Operation {
         overlapped: bool,
         outcome: Option<Versioned>,
     },
-    /// Kind 5. "A write's carried guard is not 0".
+    /// Kind 5. "A write's carried guard is not 0"; a load's is (document 02 §2), and a load is not
+    /// overlapped.
     Write {
         entry: u8,
         value: u32,
@@ -59,7 +60,7 @@ pub enum Operation {
 pub struct Request {
     /// "serial (at least 1)"
     pub serial: u32,
-    /// The player that sent it.
+    /// The player that sent it, or [`LOADER`].
     pub player: u8,
     /// Whether it is given up. "A given-up row has not arrived."
     pub abandoned: bool,
@@ -82,7 +83,12 @@ impl Request {
         !self.abandoned
     }
 
-    /// Whether it is a write on this entry.
+    /// Document 02 §2: "a load ...: a row of kind 5 whose player is 8".
+    pub fn is_load(&self) -> bool {
+        self.player == LOADER
+    }
+
+    /// Whether it is a write on this entry, a load too.
     pub fn writes(&self, on: u8) -> bool {
         matches!(self.operation, Operation::Write { entry, .. } if entry == on)
     }

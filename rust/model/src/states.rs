@@ -2,7 +2,7 @@
 
 use calls::Range;
 
-use crate::numbers::{MAX_REQUESTS, MAX_SERIAL, PLAYERS};
+use crate::numbers::{BARRED, LOADER, MAX_REQUESTS, MAX_SERIAL, OPEN, PLAYERS};
 use crate::prng::Prng;
 use crate::state::{Cached, Operation, Request, State};
 use crate::store::{GuardOutcome, Versioned, WriteOutcome};
@@ -30,7 +30,7 @@ fn fill_ranges<T: Copy>(rng: &mut Prng, items: &mut [T], mut draw: impl FnMut(&m
 }
 
 /// Any state that keeps the table rules: also such as no list of steps leads to, full places,
-/// serials near the last one, 1 to 256 guard intervals.
+/// serials near the last one, 1 to 256 guard intervals, open and barred ones among them, loads.
 pub fn any_state(rng: &mut Prng) -> State {
     let last_serial = match rng.below(5) {
         0 => rng.below(4),
@@ -47,7 +47,10 @@ pub fn any_state(rng: &mut Prng) -> State {
     for boundary in &mut state.store.boundaries[1..] {
         *boundary = rng.chance(boundaries);
     }
-    fill_ranges(rng, &mut state.store.guards, serial);
+    fill_ranges(rng, &mut state.store.guards, |rng| match rng.below(4) {
+        0 => BARRED,
+        _ => serial(rng),
+    });
     fill_ranges(rng, &mut state.store.versions, serial);
     fill_ranges(rng, &mut state.store.values, Prng::word);
     fill_ranges(rng, &mut state.owners, |rng| rng.below(9) as u8);
@@ -99,7 +102,10 @@ fn any_request(rng: &mut Prng, own: u32, serial: impl Fn(&mut Prng) -> u32) -> R
     let guard = below(serial(rng));
     let overlapped = rng.chance(30);
     let delivered = rng.chance(50);
-    let operation = match rng.below(3) {
+    let write_outcome =
+        delivered.then_some([WriteOutcome::Committed, WriteOutcome::Rejected][rng.index(2)]);
+    let mut player = rng.below(PLAYERS as u32) as u8;
+    let operation = match rng.below(4) {
         0 => Operation::Guard {
             range,
             outcome: delivered
@@ -110,9 +116,18 @@ fn any_request(rng: &mut Prng, own: u32, serial: impl Fn(&mut Prng) -> u32) -> R
             value: rng.word(),
             guard,
             overlapped,
-            outcome: delivered
-                .then_some([WriteOutcome::Committed, WriteOutcome::Rejected][rng.index(2)]),
+            outcome: write_outcome,
         },
+        2 => {
+            player = LOADER;
+            Operation::Write {
+                entry,
+                value: rng.word(),
+                guard: OPEN,
+                overlapped: false,
+                outcome: write_outcome,
+            }
+        }
         _ => Operation::Read {
             entry,
             guard,
@@ -125,7 +140,7 @@ fn any_request(rng: &mut Prng, own: u32, serial: impl Fn(&mut Prng) -> u32) -> R
     };
     Request {
         serial: own,
-        player: rng.below(PLAYERS as u32) as u8,
+        player,
         abandoned: !delivered && rng.chance(30),
         operation,
     }

@@ -1,10 +1,10 @@
 //! The store's side: "borders, guards, stamps and values, with what step 6 does to them and steps
-//! 10 to 12"; and how far a guard reaches (document 02 §1).
+//! 10 to 12"; how far a guard reaches (document 02 §1); open and barred guards (document 02 §2).
 
 use calls::Range;
 
 use crate::faults::{Fault, Switches};
-use crate::numbers::{Entries, ENTRIES};
+use crate::numbers::{Entries, BARRED, ENTRIES, OPEN};
 use crate::reply::Refusal;
 
 /// An entry's version and value.
@@ -20,7 +20,7 @@ pub struct Versioned {
 /// also give its stretch's first and last entry".
 #[derive(Clone, Copy, Debug, PartialEq, Eq)]
 pub struct Interval {
-    /// The guard, 0 for none.
+    /// The guard: a serial, [`OPEN`] or [`BARRED`].
     pub guard: u32,
     /// The first entry.
     pub first: usize,
@@ -42,7 +42,7 @@ pub enum GuardOutcome {
 pub enum WriteOutcome {
     /// The value took effect.
     Committed = 1,
-    /// The guard carried is not the entry's; nothing is changed.
+    /// The guard carried does not match the entry's; nothing is changed.
     Rejected = 2,
 }
 
@@ -54,7 +54,7 @@ pub enum WriteOutcome {
 pub struct Store {
     /// "borders: 1 where a tablet begins, else 0; entry 0's is 1"
     pub boundaries: [bool; ENTRIES],
-    /// For each entry the guard of the interval that has it.
+    /// For each entry the guard of the interval that has it: a serial, [`OPEN`] or [`BARRED`].
     pub guards: [u32; ENTRIES],
     /// "for each entry a stamp"
     pub versions: [u32; ENTRIES],
@@ -69,7 +69,7 @@ impl Store {
         boundaries[0] = true;
         Store {
             boundaries,
-            guards: [0; ENTRIES],
+            guards: [OPEN; ENTRIES],
             versions: [0; ENTRIES],
             values: [0; ENTRIES],
         }
@@ -88,8 +88,9 @@ impl Store {
         begin.unwrap_or(0)..end.unwrap_or(ENTRIES)
     }
 
-    /// The longest row of neighbouring entries, this one among them, that have one guard, be it 0 or
-    /// not. Tablets do not cut it.
+    /// The longest row of neighbouring entries, this one among them, that have one guard, be it open,
+    /// a serial or barred: document 02 §2, barred "forms stretches like a guard". Tablets do not cut
+    /// it.
     pub fn find_interval(&self, entry: u8, faults: &impl Switches) -> Interval {
         let entry = usize::from(entry);
         let guard = self.guards[entry];
@@ -120,11 +121,13 @@ impl Store {
         if faults.has(Fault::IntervalEndsBehind) {
             found.last += 1;
         }
-        if faults.has(Fault::UnguardedAlone) && found.guard == 0 {
+        let alone = faults.has(Fault::OpenAlone) && found.guard == OPEN
+            || faults.has(Fault::BarredAlone) && found.guard == BARRED;
+        if alone {
             (found.first, found.last) = (entry, entry);
         }
         if faults.has(Fault::IntervalWithoutGuard) {
-            found.guard = 0;
+            found.guard = OPEN;
         }
         found
     }
@@ -152,8 +155,19 @@ impl Store {
         }
     }
 
-    /// "Write: commits if the carried guard equals the entry's guard, which 0 never does, else is
-    /// turned back."
+    /// Document 02 §2: "guard 0 is open and matches a carried 0, and a restart sets a new mark, barred,
+    /// that matches nothing"; not even the same number, handed to the store used alone.
+    fn matches(&self, carried: u32, entry: usize, faults: &impl Switches) -> bool {
+        let guard = self.guards[entry];
+        let fails = carried == BARRED && !faults.has(Fault::BarredMatches)
+            || carried == OPEN && faults.has(Fault::OpenMatchesNothing);
+        let mistaken = faults.has(Fault::StoreIgnoresGuard)
+            || faults.has(Fault::BarredMatchesOpen) && (carried, guard) == (OPEN, BARRED);
+        carried == guard && !fails || mistaken
+    }
+
+    /// "Write: commits if the carried guard equals the entry's guard, ... else is turned back." What
+    /// stands between, "which 0 never does", document 02 §2 replaces: see [`Store::matches`].
     pub fn write(
         &mut self,
         entry: u8,
@@ -163,10 +177,7 @@ impl Store {
         faults: &impl Switches,
     ) -> WriteOutcome {
         let entry = usize::from(entry);
-        let equal = guard == self.guards[entry] || faults.has(Fault::StoreIgnoresGuard);
-        let guarded =
-            guard != 0 || faults.has(Fault::ZeroGuardCommits) || faults.has(Fault::UnguardedWrite);
-        if !(equal && guarded) {
+        if !self.matches(guard, entry, faults) {
             return WriteOutcome::Rejected;
         }
         self.versions[entry] = serial;
@@ -182,7 +193,7 @@ impl Store {
         }
         if faults.has(Fault::SplitRestartsTablet) {
             let tablet = self.tablet(entry);
-            self.guards[tablet].fill(0);
+            self.guards[tablet].fill(BARRED);
         }
         self.boundaries[usize::from(entry)] = true;
         Ok(())
@@ -198,12 +209,19 @@ impl Store {
         Ok(())
     }
 
-    /// "12 tablet restart: the guards of the tablet containing the entry become 0."
+    /// "12 tablet restart: the guards of the tablet containing the entry become 0." Document 02 §2: "a
+    /// restart sets a new mark, barred", in place of 0, whatever the guards were.
     pub fn restart(&mut self, entry: u8, faults: &impl Switches) {
         if faults.has(Fault::RestartTabletKeepsGuards) {
             return;
         }
         let tablet = self.tablet(entry);
-        self.guards[tablet].fill(0);
+        for guard in &mut self.guards[tablet] {
+            *guard = match *guard {
+                OPEN if faults.has(Fault::RestartKeepsOpen) => OPEN,
+                _ if faults.has(Fault::RestartOpens) => OPEN,
+                _ => BARRED,
+            };
+        }
     }
 }

@@ -2,8 +2,9 @@
 //!
 //! Reading 20: "The store used alone tests 21, 22, 28, 35 in that order. A write's carried guard
 //! is not tested (0 or a strange number is turned back). Setting a guard replies 0, outcome, 0; a
-//! read 0, version, value; a write 0, outcome, 0." Document 02 §1 adds a guard interval, which has its
-//! own four numbers.
+//! read 0, version, value; a write 0, outcome, 0." By document 02 §2 a carried 0 matches an open guard;
+//! the number of barred is a strange one. Document 02 §1 adds a guard interval, which has its own four
+//! numbers.
 
 use calls::{Interval, Range, Reply};
 

@@ -19,9 +19,10 @@ pub enum TableRule {
     IntervalNeighbours,
     /// "Unused places are zero." Of the interval columns.
     IntervalUnused,
-    /// "No serial in a table exceeds the last one issued." Of the store's guards.
+    /// "No serial in a table exceeds the last one issued." Of the store's guards, which may be barred
+    /// too (document 02 §2).
     GuardSerial,
-    /// The same of the versions.
+    /// "No serial in a table exceeds the last one issued." Of the versions.
     VersionSerial,
     /// "last usable 4,000,000"
     LastSerial,
@@ -45,7 +46,8 @@ pub enum TableRule {
     RequestOrder,
     /// "No serial in a table exceeds the last one issued." Of the requests' serials.
     RequestSerial,
-    /// A request's player is one of "eight players (0 to 7)".
+    /// A request's player is one of "eight players (0 to 7)", or the loader: document 02 §2, "a row ...
+    /// whose player is 8".
     RequestPlayer,
     /// "kind (3, 4 or 5)"
     RequestKind,
@@ -77,11 +79,17 @@ pub enum TableRule {
     OutcomeSecond,
     /// "No serial in a table exceeds the last one issued." Of a delivered read's version.
     OutcomeSerial,
+    /// Document 02 §2: a load is "a row of kind 5".
+    LoadKind,
+    /// "carrying 0"
+    LoadGuard,
+    /// "It is never overlapped"
+    LoadOverlapped,
 }
 
 impl TableRule {
     /// Every rule.
-    pub const ALL: [TableRule; 36] = [
+    pub const ALL: [TableRule; 39] = [
         TableRule::BoundaryBit,
         TableRule::FirstBoundary,
         TableRule::FirstInterval,
@@ -118,6 +126,9 @@ impl TableRule {
         TableRule::OutcomeNumber,
         TableRule::OutcomeSecond,
         TableRule::OutcomeSerial,
+        TableRule::LoadKind,
+        TableRule::LoadGuard,
+        TableRule::LoadOverlapped,
     ];
 }
 

@@ -6,7 +6,7 @@
 
 use calls::Reply;
 
-use crate::numbers::{ENTRIES, MAX_REQUESTS, MAX_SERIAL, NOBODY, PLAYERS};
+use crate::numbers::{BARRED, ENTRIES, MAX_REQUESTS, MAX_SERIAL, NOBODY, PLAYERS};
 use crate::reply::Refusal;
 use crate::request_words::{decode_request, encode_request, RequestWords, REQUEST_WORDS};
 use crate::state::{Cached, Request, State};
@@ -77,7 +77,10 @@ pub fn decode_store(words: &[u32], last_serial: u32) -> Result<Store, TableError
     }
     require(boundaries[0], TableRule::FirstBoundary)?;
     let starts = column(words, INTERVAL_STARTS)?;
-    let interval_guards = serials(words, INTERVAL_GUARDS, last_serial, TableRule::GuardSerial)?;
+    let interval_guards = column(words, INTERVAL_GUARDS)?;
+    // Document 02 §2: "Barred differs from 0 and from every serial", so it is above the last one.
+    let valid = |&guard: &u32| guard <= last_serial || guard == BARRED;
+    require(interval_guards.iter().all(valid), TableRule::GuardSerial)?;
     Ok(Store {
         boundaries,
         guards: decode_intervals(&starts, &interval_guards)?,

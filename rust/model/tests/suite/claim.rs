@@ -178,7 +178,7 @@ fn tables() {
     assert_eq!(with(|_| ()), Ok(()));
     let given = with(|store| store.boundaries[9] = false);
     assert_eq!(given, broken(Sentence::Boundaries, 7));
-    let given = with(|store| store.guards[40] = 0);
+    let given = with(|store| store.guards[39] = 2);
     assert_eq!(given, broken(Sentence::Guards, 7));
     let given = with(|store| store.versions[45] = 0);
     assert_eq!(given, broken(Sentence::Versions, 7));
@@ -303,6 +303,114 @@ fn a_found_interval_is_neither_read_nor_write() {
         ] {
             assert_eq!(altered(&steps, &[(at, other)]), Ok(()), "{at} {other:?}");
         }
+    }
+}
+
+/// Document 02 §2: "In the line a load is a write like another", and carries 0: one that arrives at an
+/// open entry takes effect, one at a guarded or barred entry does not.
+#[test]
+fn a_load_is_a_write_in_the_line() {
+    let steps = [
+        load(45, 5),
+        read(3, 45),
+        deliver(1),
+        deliver(2),
+        respond(2),
+        respond(1),
+        assign(0, 40, 60),
+        load(45, 6),
+        ask(0, 40, 60),
+        deliver(5),
+        deliver(4),
+        respond(4),
+        restart_tablet(45),
+        load(45, 7),
+        deliver(6),
+        respond(6),
+        read(3, 45),
+        deliver(7),
+        respond(7),
+    ];
+    let (history, state) = play(&steps, &NoFault);
+    let given = |at: usize| history[at].reply;
+    assert_eq!((given(4), given(5)), (reply(3, 1, 5), reply(4, 1, 5)));
+    assert_eq!((given(11), given(15)), (reply(5, 4, 0), reply(5, 6, 0)));
+    assert_eq!(given(18), reply(3, 1, 5));
+    let ledger = ledger_of(&history);
+    assert_eq!(
+        placed(&ledger),
+        [
+            (OperationId::Serial(1), true, 2),
+            (OperationId::Serial(2), false, 3),
+            (OperationId::Serial(7), false, 17),
+        ]
+    );
+    assert_eq!(ledger.store, state.store);
+    assert_eq!(check(&history, &state.store), Ok(()));
+    let wrong = [
+        (5, reply(5, 1, 0), Sentence::RejectedNever),
+        (5, reply(4, 1, 6), Sentence::WriteReply),
+        (11, reply(4, 4, 6), Sentence::CommittedOnce),
+        (15, reply(4, 6, 7), Sentence::CommittedOnce),
+        (18, reply(3, 6, 7), Sentence::ReadReply),
+    ];
+    for (at, other, sentence) in wrong {
+        assert_eq!(
+            altered(&steps, &[(at, other)]),
+            broken(sentence, at),
+            "{other:?}"
+        );
+    }
+}
+
+/// "took effect at no step after the granting of a guard that was asked for on that entry after the
+/// write began", of a load that is given up; no player's restart gives it up.
+#[test]
+fn an_abandoned_load_after_a_grant() {
+    let steps = [
+        load(45, 5),
+        abandon(1),
+        assign(0, 45, 46),
+        ask(0, 45, 46),
+        respond(3),
+        deliver(1),
+    ];
+    let granted_early = (4, reply(6, 3, 0));
+    let given = altered(&steps, &[granted_early]);
+    assert_eq!(given, broken(Sentence::AbandonedAfterGrant, 5));
+    for player in 0..8 {
+        let mut steps = steps;
+        steps[1] = restart_player(player);
+        assert_eq!(altered(&steps, &[granted_early]), Ok(()));
+    }
+}
+
+/// Document 02 §2: "an entry once guarded or restarted is never open again". Steps that close entry 45,
+/// and steps that do not; and a store in which it is open afterwards.
+#[test]
+fn never_open_again() {
+    let closing: [&[Step]; 3] = [
+        &[assign(0, 40, 60), ask(0, 40, 60), deliver(2)],
+        &[assign(0, 40, 60), ask(0, 40, 60), abandon(2), deliver(2)],
+        &[split(128), restart_tablet(0)],
+    ];
+    for steps in closing {
+        let (history, mut state) = play(steps, &NoFault);
+        assert_eq!(check(&history, &state.store), Ok(()));
+        state.store.guards[45] = 0;
+        let given = check(&history, &state.store);
+        assert_eq!(given, broken(Sentence::NeverOpenAgain, steps.len()));
+    }
+    let others: [&[Step]; 4] = [
+        &[assign(0, 40, 60), ask(0, 40, 60)],
+        &[assign(0, 40, 60), ask(0, 40, 60), abandon(2), lose(2)],
+        &[split(50), assign(0, 40, 60), ask(0, 40, 60), deliver(2)],
+        &[split(40), restart_tablet(0), load(45, 1), deliver(1)],
+    ];
+    for steps in others {
+        let (history, state) = play(steps, &NoFault);
+        assert_eq!(state.store.guards[45], 0);
+        assert_eq!(check(&history, &state.store), Ok(()));
     }
 }
 

@@ -9,8 +9,8 @@ use model::reply::Refusal;
 use crate::support::*;
 
 /// A step of each kind with its record. "Maps: 0F for kinds 1 and 3; 0D for 2; 07 for 4; 17 for 5; 21
-/// for 6 to 9; 05 for 10 to 12; 03 for 13." Document 02 §1: "kind 14, map 05". Little-endian, fields in
-/// the order of their bits.
+/// for 6 to 9; 05 for 10 to 12; 03 for 13." Document 02 §1: "kind 14, map 05"; §2: "Kind 15 (entry and
+/// value, map 15 hexadecimal)". Little-endian, fields in the order of their bits.
 fn by_hand() -> [(Step, &'static str); KINDS as usize] {
     [
         (assign(1, 2, 0x103), "0F 01 01 02 0301"),
@@ -27,6 +27,7 @@ fn by_hand() -> [(Step, &'static str); KINDS as usize] {
         (restart_tablet(2), "05 0C 02"),
         (restart_player(3), "03 0D 03"),
         (find_interval(4), "05 0E 04"),
+        (load(9, 0x04030201), "15 0F 09 01020304"),
     ]
 }
 
@@ -53,6 +54,7 @@ fn record_lengths() {
         (0x0D, 5),
         (0x0F, 6),
         (0x10, 5),
+        (0x15, 7),
         (0x17, 8),
         (0x20, 5),
         (0x21, 6),
@@ -119,8 +121,8 @@ fn every_map_and_kind() {
     }
 }
 
-/// Document 02 §1: "From here on 26 means a kind not in force." The kinds 0 and 15 are none, whatever the
-/// map; kind 14 with another map than its own is 27.
+/// Document 02 §1: "From here on 26 means a kind not in force." The kinds 0 and 23 are none, whatever the
+/// map; kinds 14 and 15 with another map than their own are 27.
 #[test]
 fn kinds_not_in_force() {
     let cases = [
@@ -131,6 +133,12 @@ fn kinds_not_in_force() {
         ("01 0E", Refusal::RecordFields),
         ("03 0E 04", Refusal::RecordFields),
         ("07 0E 01 04", Refusal::RecordFields),
+        ("05 0F 04", Refusal::RecordFields),
+        ("17 0F 08 04 07000000", Refusal::RecordFields),
+        ("0D 0F 04 0700", Refusal::RecordFields),
+        ("15 0E 04 07000000", Refusal::RecordFields),
+        ("15 0F 04 070000", Refusal::RecordCut),
+        ("55 0F 04 07000000", Refusal::RecordBits),
         ("04 04", Refusal::RecordFields),
         ("05 0E", Refusal::RecordCut),
         ("05 17", Refusal::RecordCut),
@@ -165,8 +173,8 @@ fn random_bytes() {
     let mut accepted = 0;
     for _ in 0..20_000 * scale() {
         let mut bytes: Vec<u8> = (0..16).map(|_| rng.below(256) as u8).collect();
-        bytes[0] = [0x0F, 0x0D, 0x07, 0x17, 0x21, 0x05, 0x03, bytes[0]][rng.index(8)];
-        bytes[1] %= 16;
+        bytes[0] = [0x0F, 0x0D, 0x07, 0x17, 0x21, 0x05, 0x03, 0x15, bytes[0]][rng.index(9)];
+        bytes[1] %= 18;
         if let Ok((step, length)) = decode(&bytes) {
             accepted += 1;
             assert_eq!(record(step), bytes[..length]);

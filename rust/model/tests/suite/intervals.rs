@@ -89,11 +89,11 @@ fn across_a_boundary() {
     let given = found(&then(&[split(50)]), &[40, 49, 50, 59]);
     assert_eq!(given, [(40, 59); 4]);
     assert_eq!(found(&[split(128)], &[127, 128]), [(0, 255); 2]);
-    // The restart of the second tablet leaves the guard in the first; 50 to 59 join what is above them.
+    // The restart of the second tablet, 50 to 255, leaves the guard in the first.
     let steps = then(&[split(50), restart_tablet(55)]);
     let given = found(&steps, &[39, 40, 49, 50, 60]);
     assert_eq!(given, [(0, 39), (40, 49), (40, 49), (50, 255), (50, 255)]);
-    // After that of the first, guard 0 is on both sides of the boundary.
+    // After that of the first, both sides of the boundary are barred.
     let steps = then(&[split(50), restart_tablet(55), restart_tablet(45)]);
     assert_eq!(found(&steps, &[0, 49, 50, 255]), [(0, 255); 4]);
     // Two boundaries inside one interval.

@@ -58,6 +58,20 @@ fn marks_of_any_number() {
     }
 }
 
+/// Document 02 §2: a load is no player's; the loader's own are not counted, 28.
+#[test]
+fn loads_are_no_players() {
+    let (_, players) = tables_of(&state_after(&[load(9, 5), read(0, 9), load(9, 6)]));
+    let list = records(&players).expect("the table has its length");
+    let loads: Vec<u8> = list[..3].iter().map(|r| r.player).collect();
+    assert_eq!(loads, [8, 0, 8]);
+    assert_eq!(pending_requests(&list, 0), reply(0, 1, 0));
+    for player in 1..8 {
+        assert_eq!(pending_requests(&list, player), reply(0, 0, 0));
+    }
+    assert_eq!(pending_requests(&list, 8), refused(28));
+}
+
 /// "*Waiting* means in flight and not given up": delivered requests count.
 #[test]
 fn of_a_table() {

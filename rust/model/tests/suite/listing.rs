@@ -87,6 +87,26 @@ end 0 7 34
     assert_eq!(listing(&session), expected);
 }
 
+/// Document 02 §2: loads at an open and at a barred entry.
+#[test]
+fn loads() {
+    let session = hex(
+        "52534C31 150F0905000000 210601000000 210701000000 050C09 150F09FFFFFFFF \
+        210602000000 210702000000",
+    );
+    let expected = "step code a b
+1 1 1 0
+2 0 0 0
+3 4 1 5
+4 0 0 0
+5 1 2 0
+6 0 0 0
+7 5 2 0
+end 0 7 45
+";
+    assert_eq!(listing(&session), expected);
+}
+
 /// The most records a session can hold, 3 bytes each after the mark, all find a place in the list.
 #[test]
 fn longest_session() {

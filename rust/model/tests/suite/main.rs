@@ -7,6 +7,7 @@ mod faults;
 mod intervals;
 mod lent;
 mod listing;
+mod loads;
 mod random;
 mod run;
 mod shrink;

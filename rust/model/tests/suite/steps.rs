@@ -1,8 +1,9 @@
-//! The thirteen steps of document 01, sentence by sentence, with its readings.
+//! The thirteen steps of document 01, sentence by sentence, with its readings. (What document 02 §2
+//! makes of the store's guards is in `loads`; a restart bars here too.)
 
-use model::numbers::{MAX_SERIAL, NOBODY};
+use model::numbers::{BARRED, MAX_SERIAL, NOBODY};
 use model::rules;
-use model::state::{Cached, Operation, State};
+use model::state::{Cached, Operation};
 use model::store::{Versioned, WriteOutcome};
 
 use crate::support::*;
@@ -95,18 +96,6 @@ fn read_from_memory_when_full() {
     assert_eq!(rules::step(&mut state, read(0, 46)), refused(33), "33, 34");
 }
 
-fn marks(state: &State) -> Vec<(u32, bool)> {
-    let overlapped = |operation: &Operation| match *operation {
-        Operation::Guard { .. } => false,
-        Operation::Read { overlapped, .. } | Operation::Write { overlapped, .. } => overlapped,
-    };
-    state
-        .requests
-        .iter()
-        .map(|r| (r.serial, overlapped(&r.operation)))
-        .collect()
-}
-
 /// "overlapped if a write by this player on this entry waits". Reading 10: also a delivered one.
 #[test]
 fn read_beside_a_write() {
@@ -170,8 +159,7 @@ fn write_refusals() {
     assert_eq!(rules::step(&mut state, write(0, 45, 1)), refused(30));
 }
 
-/// "Write: commits if the carried guard equals the entry's guard, which 0 never does, else is
-/// turned back."
+/// "Write: commits if the carried guard equals the entry's guard, ... else is turned back."
 #[test]
 fn writes_at_the_store() {
     let state = state_after(&then(&[write(0, 45, 7), deliver(3)]));
@@ -342,20 +330,20 @@ fn boundaries() {
     assert_eq!(state.store.guards[49..51], [2, 2]);
 }
 
-/// "12 tablet restart: the guards of the tablet containing the entry become 0." Reading 14: at a
-/// boundary the tablet that begins there.
+/// "12 tablet restart: the guards of the tablet containing the entry become 0"; document 02 §2: "a
+/// restart sets a new mark, barred". Reading 14: at a boundary the tablet that begins there.
 #[test]
 fn tablet_restarts() {
     let guards = |entry| {
         let state = state_after(&then(&[split(45), split(50), restart_tablet(entry)]));
         [44, 45, 49, 50].map(|e| state.store.guards[e])
     };
-    assert_eq!(guards(0), [0, 2, 2, 2]);
-    assert_eq!(guards(44), [0, 2, 2, 2]);
-    assert_eq!(guards(45), [2, 0, 0, 2]);
-    assert_eq!(guards(49), [2, 0, 0, 2]);
-    assert_eq!(guards(50), [2, 2, 2, 0]);
-    assert_eq!(guards(255), [2, 2, 2, 0]);
+    assert_eq!(guards(0), [BARRED, 2, 2, 2]);
+    assert_eq!(guards(44), [BARRED, 2, 2, 2]);
+    assert_eq!(guards(45), [2, BARRED, BARRED, 2]);
+    assert_eq!(guards(49), [2, BARRED, BARRED, 2]);
+    assert_eq!(guards(50), [2, 2, 2, BARRED]);
+    assert_eq!(guards(255), [2, 2, 2, BARRED]);
 }
 
 /// "13 player restart: its guards and cells are cleared, its waiting rows given up as in step 8."

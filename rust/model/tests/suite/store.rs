@@ -2,6 +2,7 @@
 
 use calls::{Interval, Range, Reply};
 use model::broken::break_rule;
+use model::numbers::BARRED;
 use model::prng::Prng;
 use model::store_calls::*;
 use model::table_rules::TableRule;
@@ -30,15 +31,65 @@ fn guards_and_writes() {
     assert_eq!(read(&words, 45), reply(0, 3, 7));
     // "the same write handed in twice may commit twice"
     assert_eq!(write(&mut words, 45, 3, 7, 2), reply(0, 1, 0));
-    // "which 0 never does"
-    assert_eq!(write(&mut words, 39, 5, 9, 0), reply(0, 2, 0));
-    assert_eq!(read(&words, 39), reply(0, 0, 0));
     // A guard carried is not tested.
-    assert_eq!(write(&mut words, 45, 6, 9, u32::MAX), reply(0, 2, 0));
+    assert_eq!(write(&mut words, 45, 6, 9, 4_000_001), reply(0, 2, 0));
     assert_eq!(restart(&mut words, 200), reply(0, 0, 0));
     assert_eq!(words[256..260], [0; 4]);
+    assert_eq!(words[512..514], [4_294_967_295, 0]);
     assert_eq!(write(&mut words, 45, 6, 9, 2), reply(0, 2, 0));
+    assert_eq!(read(&words, 45), reply(0, 3, 7));
     assert_eq!(check(&words), reply(0, 0, 0));
+}
+
+/// Document 02 §2: "guard 0 is open and matches a carried 0, and a restart sets a new mark, barred, that
+/// matches nothing". Guard 2 over 40 to 60, and the tablet from 128 on restarted.
+#[test]
+fn open_and_barred() {
+    let mut words = fresh_store();
+    assert_eq!(set_guard(&mut words, range(40, 60), 2), reply(0, 1, 0));
+    assert_eq!(split(&mut words, 128), reply(0, 0, 0));
+    assert_eq!(restart(&mut words, 200), reply(0, 0, 0));
+    let cases = [
+        // entry, carried, outcome
+        (39, 0, 1),
+        (39, 2, 2),
+        (39, BARRED, 2),
+        (40, 0, 2),
+        (40, 2, 1),
+        (40, BARRED, 2),
+        (127, 0, 1),
+        (128, 0, 2),
+        (128, 2, 2),
+        (128, BARRED, 2),
+        (255, BARRED, 2),
+    ];
+    for (entry, carried, outcome) in cases {
+        let mut words = words.clone();
+        let given = write(&mut words, entry, 9, 7, carried);
+        assert_eq!(given, reply(0, outcome, 0), "{entry} {carried}");
+        let held = if outcome == 1 { (9, 7) } else { (0, 0) };
+        assert_eq!(read(&words, entry), reply(0, held.0, held.1));
+    }
+    // A guard may be set at a barred entry, and is as any other then.
+    assert_eq!(set_guard(&mut words, range(200, 201), 8), reply(0, 1, 0));
+    assert_eq!(write(&mut words, 200, 7, 1, 8), reply(0, 1, 0));
+    assert_eq!(find_interval(&words, 199), interval(BARRED, 128, 199));
+    assert_eq!(find_interval(&words, 200), interval(8, 200, 200));
+    assert_eq!(find_interval(&words, 201), interval(BARRED, 201, 255));
+    assert_eq!(find_interval(&words, 127), interval(0, 60, 127));
+    assert_eq!(words[256..262], [0, 40, 60, 128, 200, 201]);
+    assert_eq!(words[512..518], [0, 2, 0, BARRED, 8, BARRED]);
+    // Barred is no serial: it cannot be asked for, and stands in no other column.
+    assert_eq!(set_guard(&mut words, range(0, 1), BARRED), refused(28));
+    assert_eq!(write(&mut words, 0, BARRED, 7, 0), refused(28));
+    assert_eq!(check_at(&words, 0), refused(22));
+    assert_eq!(check_at(&words, 8), reply(0, 0, 0));
+    words[513] = BARRED - 1;
+    assert_eq!(check(&words), refused(22));
+    words[513] = BARRED;
+    assert_eq!(check(&words), reply(0, 0, 0));
+    words[768] = BARRED;
+    assert_eq!(check(&words), refused(22));
 }
 
 /// "if the range lies in one tablet the guard is set over it, else the outcome is 'layout changed'

@@ -2,7 +2,7 @@
 
 use calls::{Range, Reply, Step};
 use model::faults::NoFault;
-use model::state::State;
+use model::state::{Operation, State};
 use model::trial::play;
 
 /// How many times the default number of random cases is run: `FAMDRIZE_SCALE`, 1 if not set.
@@ -40,6 +40,19 @@ pub fn state_after(steps: &[Step]) -> State {
         assert!(!event.reply.is_refusal(), "{event:?}");
     }
     state
+}
+
+/// The serial of each request, and whether it is overlapped.
+pub fn marks(state: &State) -> Vec<(u32, bool)> {
+    let overlapped = |operation: &Operation| match *operation {
+        Operation::Guard { .. } => false,
+        Operation::Read { overlapped, .. } | Operation::Write { overlapped, .. } => overlapped,
+    };
+    state
+        .requests
+        .iter()
+        .map(|r| (r.serial, overlapped(&r.operation)))
+        .collect()
 }
 
 pub fn reply(code: u32, a: u32, b: u32) -> Reply {
@@ -115,6 +128,10 @@ pub fn restart_player(player: u8) -> Step {
 
 pub fn find_interval(entry: u8) -> Step {
     Step::FindInterval { entry }
+}
+
+pub fn load(entry: u8, value: u32) -> Step {
+    Step::Load { entry, value }
 }
 
 /// Player 0 owns 40 to 60 (serial 1) and holds guard 2 there; the next serial is 3.

@@ -1,7 +1,7 @@
 //! The two tables: fresh ones, what is allowed, and each rule broken alone.
 
-use model::broken::{break_rule, rich_state};
-use model::numbers::MAX_SERIAL;
+use model::broken::{bar, break_rule, rich_state, SERIAL_RULES};
+use model::numbers::{BARRED, MAX_SERIAL};
 use model::prng::Prng;
 use model::state::{Cached, State};
 use model::states::any_state;
@@ -71,6 +71,39 @@ fn words_by_hand() {
     assert_eq!(players, expected);
 }
 
+/// Document 02 §2, by hand: a load that arrived at an open entry, one that is given up, and one that
+/// arrived at a barred entry; "a row of kind 5 whose player is 8, carrying 0".
+#[test]
+fn words_of_loads_by_hand() {
+    let state = state_after(&[
+        load(9, 5),
+        deliver(1),
+        load(255, 6),
+        abandon(2),
+        split(128),
+        restart_tablet(200),
+        load(200, 7),
+        deliver(3),
+    ]);
+    let (store, players) = tables_of(&state);
+    let (mut expected_store, mut expected) = fresh_tables();
+    expected_store[128] = 1;
+    expected_store[257] = 128;
+    expected_store[513] = 4_294_967_295;
+    expected_store[768 + 9] = 1;
+    expected_store[1_024 + 9] = 5;
+    expected[0] = 3;
+    let requests = [
+        [1, 8, 5, 9, 0, 5, 0, 0, 1, 0, 1, 0],
+        [2, 8, 5, 255, 0, 6, 0, 0, 0, 1, 0, 0],
+        [3, 8, 5, 200, 0, 7, 0, 0, 1, 0, 2, 0],
+    ];
+    expected[8_705..8_741].copy_from_slice(requests.as_flattened());
+    assert_eq!(store, expected_store);
+    assert_eq!(players, expected);
+    assert_eq!(check(&store, &players), reply(0, 0, 0));
+}
+
 /// "neighbours never equal (so 1 to 256 of them)": 256 intervals fill both columns.
 #[test]
 fn most_intervals() {
@@ -98,6 +131,92 @@ fn each_rule_broken_alone() {
             assert_eq!(check(&store, &players), refused(22));
         }
     }
+}
+
+/// Document 02 §2: barred is a mark of the store's guards; where another serial may stand it is 22.
+#[test]
+fn barred_stands_in_the_stores_guards_alone() {
+    let mut rng = Prng::new(26);
+    for rule in SERIAL_RULES {
+        for _ in 0..10 * scale() {
+            let (store, players) = bar(&mut rng, rule);
+            assert_eq!(decode(&store, &players), Err(TableError::Rule(rule)));
+            assert_eq!(check(&store, &players), refused(22));
+        }
+    }
+    // By hand: each word that may be a serial.
+    let (mut store, mut players) = fresh_tables();
+    players[0] = 9;
+    players[CACHED_GUARDS + 7] = 1;
+    players[REQUESTS..REQUESTS + 24].copy_from_slice(
+        [
+            [5, 0, 4, 2, 0, 0, 3, 0, 1, 0, 4, 77],
+            [6, 0, 5, 2, 0, 0, 3, 0, 0, 0, 0, 0],
+        ]
+        .as_flattened(),
+    );
+    assert_eq!(check(&store, &players), reply(0, 0, 0));
+    let places = [
+        LAST_SERIAL,
+        EPOCHS,
+        EPOCHS + 255,
+        HELD_GUARDS,
+        HELD_GUARDS + 2_047,
+        CACHED_GUARDS,
+        CACHED_VERSIONS + 7,
+        REQUESTS + 6,
+        REQUESTS + 10,
+        REQUESTS + 12,
+        REQUESTS + 12 + 6,
+    ];
+    for at in places {
+        let mut players = players.clone();
+        players[at] = BARRED;
+        assert_eq!(check(&store, &players), refused(22), "players {at}");
+    }
+    for at in [VERSIONS, VERSIONS + 255] {
+        let mut store = store.clone();
+        store[at] = BARRED;
+        assert_eq!(check(&store, &players), refused(22), "store {at}");
+    }
+    store[INTERVAL_GUARDS] = BARRED;
+    assert_eq!(check(&store, &players), reply(0, 0, 0));
+    for guard in [10, MAX_SERIAL, MAX_SERIAL + 1, BARRED - 1] {
+        store[INTERVAL_GUARDS] = guard;
+        assert_eq!(check(&store, &players), refused(22), "{guard}");
+    }
+}
+
+/// Document 02 §2: a request of player 8 is "of kind 5", "carrying 0", "never overlapped"; one of a
+/// player still carries a guard where it writes.
+#[test]
+fn requests_of_the_loader() {
+    let good = |request: [u32; 12]| {
+        let (store, mut players) = fresh_tables();
+        players[0] = 9;
+        players[REQUESTS..REQUESTS + 12].copy_from_slice(&request);
+        check(&store, &players) == reply(0, 0, 0)
+    };
+    assert!(good([5, 8, 5, 2, 0, u32::MAX, 0, 0, 0, 0, 0, 0]));
+    assert!(good([5, 8, 5, 2, 0, 7, 0, 0, 0, 1, 0, 0]));
+    assert!(good([5, 8, 5, 255, 0, 7, 0, 0, 1, 0, 1, 0]));
+    assert!(good([5, 8, 5, 2, 0, 7, 0, 0, 1, 0, 2, 0]));
+    assert!(
+        !good([5, 8, 3, 2, 9, 0, 0, 0, 0, 0, 0, 0]),
+        "a guard request"
+    );
+    assert!(!good([5, 8, 4, 2, 0, 0, 0, 0, 0, 0, 0, 0]), "a read");
+    assert!(!good([5, 8, 5, 2, 0, 7, 1, 0, 0, 0, 0, 0]), "a guard");
+    assert!(!good([5, 8, 5, 2, 0, 7, BARRED, 0, 0, 0, 0, 0]), "barred");
+    assert!(!good([5, 8, 5, 2, 0, 7, 0, 1, 0, 0, 0, 0]), "overlapped");
+    assert!(!good([5, 8, 5, 2, 0, 7, 0, 0, 1, 0, 3, 0]), "an outcome");
+    assert!(!good([5, 9, 5, 2, 0, 7, 0, 0, 0, 0, 0, 0]), "player 9");
+    assert!(
+        !good([5, 7, 5, 2, 0, 7, 0, 0, 0, 0, 0, 0]),
+        "a player's write"
+    );
+    assert!(good([5, 7, 5, 2, 0, 7, 1, 1, 0, 0, 0, 0]));
+    assert!(good([5, 7, 4, 2, 0, 0, 0, 1, 0, 0, 0, 0]));
 }
 
 /// The tables that [`break_rule`] begins with keep all rules.
