@@ -2,9 +2,11 @@
 
 use calls::Reply;
 
+use crate::places::is_load;
 use crate::{cells, region};
 
-/// Step 8: a delivered request leaves, another is marked; the guard that a write carries is dropped.
+/// Step 8: a delivered request leaves, another is marked; the guard that a player's write carries is
+/// dropped.
 pub fn abandon(players: &mut [u32], serial: u32) -> Reply {
     let Some((place, request)) = region::find(&players[8705..9473], serial) else {
         return Reply::refused(32);
@@ -17,7 +19,7 @@ pub fn abandon(players: &mut [u32], serial: u32) -> Reply {
     } else {
         region::abandon(&mut players[8705..9473], place);
     }
-    if request.kind == 5 {
+    if request.kind == 5 && !is_load(request) {
         cells::drop_guard(players, request.player, request.guard);
     }
     Reply::DONE

@@ -3,8 +3,8 @@
 //!
 //! It is a translation of the proved code and no evidence by itself: what is wrong there would be
 //! wrong here. It serves as the baseline of `bench`, and stands in where the static library is not
-//! built. It knows the kinds 1 to 13, and refuses every later one with 26. The modules are those of
-//! the crates.
+//! built. It knows the kinds 1 to 13, and refuses every later one with 26; loads that a table has in
+//! flight it takes as any request. The modules are those of the crates.
 
 #![forbid(unsafe_code)]
 #![warn(missing_docs)]
@@ -39,6 +39,10 @@ const PLAYERS: usize = 9_473;
 const SERIALS: u32 = 4_000_000;
 /// The last kind.
 const KINDS: u8 = 13;
+/// The number of the loader, in place of a request's player.
+const LOADER: u8 = 8;
+/// The guard of an entry that no write matches.
+const BARRED: u32 = 4_294_967_295;
 
 /// Tests a kind: 26 where the port does not know it.
 fn known(kind: u8) -> Result<(), u32> {

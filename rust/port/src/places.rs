@@ -2,12 +2,14 @@
 
 use calls::{Range, Request};
 
+use crate::LOADER;
+
 /// The request of place `k`.
 pub fn request_at(region: &[u32], k: usize) -> Request {
     let words = &region[k * 12..k * 12 + 12];
     Request {
         serial: words[0],
-        player: (words[1] % 8) as u8,
+        player: (words[1] % 256) as u8,
         kind: (words[2] % 256) as u8,
         low: (words[3] % 256) as u8,
         high: (words[4] % 65536) as u16,
@@ -86,8 +88,21 @@ fn remains(r: Request, player: u8) -> bool {
     r.player != player || r.abandoned != 0 || r.delivered == 0
 }
 
+/// Whether a request is a load: it has the loader's number in place of a player's.
+pub fn is_load(r: Request) -> bool {
+    r.player == LOADER
+}
+
+/// Whether the fields that a load has keep the rules.
+fn load_holds(r: Request) -> bool {
+    r.kind == 5 && r.high == 0 && r.guard == 0 && r.overlapped == 0
+}
+
 /// Whether the fields that a request's kind has, and those that it lacks, keep the rules.
 fn fields_hold(r: Request) -> bool {
+    if is_load(r) {
+        return load_holds(r);
+    }
     match r.kind {
         3 => {
             u16::from(r.low) < r.high
@@ -119,7 +134,7 @@ fn outcome_holds(r: Request, last: u32) -> bool {
 /// Whether a request keeps the rules.
 fn request_holds(r: Request, last: u32) -> bool {
     r.serial <= last
-        && r.player <= 7
+        && r.player <= LOADER
         && r.guard < r.serial
         && fields_hold(r)
         && outcome_holds(r, last)
@@ -127,7 +142,7 @@ fn request_holds(r: Request, last: u32) -> bool {
 
 /// Whether the words of a place fit their fields.
 fn words_fit(words: &[u32]) -> bool {
-    words[1] <= 7
+    words[1] <= u32::from(LOADER)
         && words[2] <= 255
         && words[3] <= 255
         && words[4] <= 65535

@@ -2,6 +2,7 @@
 
 use calls::{Reply, Request};
 
+use crate::places::is_load;
 use crate::{cells, region};
 
 /// Whether the player owns each entry from `low` up to `high` with an epoch below the serial; false
@@ -49,6 +50,14 @@ fn respond_read(players: &mut [u32], r: Request) -> Reply {
     Reply::new(3, r.first, r.second)
 }
 
+/// A load: committed or rejected, and nothing follows.
+fn respond_load(r: Request) -> Reply {
+    if r.first != 1 {
+        return Reply::new(5, r.serial, 0);
+    }
+    Reply::new(4, r.serial, r.value)
+}
+
 /// A write: committed, and cached if it may be; or rejected, and the guard carried is dropped.
 fn respond_write(players: &mut [u32], r: Request) -> Reply {
     if r.first != 1 {
@@ -68,6 +77,9 @@ pub fn respond(players: &mut [u32], serial: u32) -> Reply {
         return Reply::refused(32);
     }
     region::remove(&mut players[8705..9473], place);
+    if is_load(request) {
+        return respond_load(request);
+    }
     match request.kind {
         3 => respond_guard_request(players, request),
         4 => respond_read(players, request),

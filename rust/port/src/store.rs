@@ -3,7 +3,7 @@
 use calls::{Range, Reply};
 
 use crate::words::at_most;
-use crate::{answer, SERIALS, STORE};
+use crate::{answer, BARRED, SERIALS, STORE};
 
 /// Makes the table of a fresh store.
 pub fn fresh(store: &mut [u32]) -> Reply {
@@ -20,8 +20,12 @@ fn unused(starts: &[u32], guards: &[u32], k: usize) -> bool {
     at_most(&starts[k..], 0) && at_most(&guards[k..], 0)
 }
 
-/// Whether the intervals after the first rise, differ from their neighbours and have no guard above
-/// `last`.
+/// Whether a guard is a serial up to `last`, or 0, or barred.
+fn guard_holds(guard: u32, last: u32) -> bool {
+    guard <= last || guard == BARRED
+}
+
+/// Whether the intervals after the first rise, differ from their neighbours and have guards that hold.
 fn rising_holds(starts: &[u32], guards: &[u32], last: u32) -> bool {
     let (mut start, mut guard) = (0, guards[0]);
     for k in 1..256 {
@@ -29,7 +33,7 @@ fn rising_holds(starts: &[u32], guards: &[u32], last: u32) -> bool {
         if next == 0 {
             return unused(starts, guards, k);
         }
-        if next <= start || next >= 256 || other == guard || other > last {
+        if next <= start || next >= 256 || other == guard || !guard_holds(other, last) {
             return false;
         }
         (start, guard) = (next, other);
@@ -38,7 +42,7 @@ fn rising_holds(starts: &[u32], guards: &[u32], last: u32) -> bool {
 }
 
 fn intervals_hold(starts: &[u32], guards: &[u32], last: u32) -> bool {
-    starts[0] == 0 && guards[0] <= last && rising_holds(starts, guards, last)
+    starts[0] == 0 && guard_holds(guards[0], last) && rising_holds(starts, guards, last)
 }
 
 fn table_holds(store: &[u32], last: u32) -> bool {
@@ -96,7 +100,7 @@ pub fn read(store: &[u32], entry: u8) -> Reply {
     unchecked::read(store, entry)
 }
 
-/// A write that commits if the guard it carries is the entry's, and not 0.
+/// A write that commits if the guard it carries is the entry's, and not barred.
 pub fn write(store: &mut [u32], entry: u8, value: u32, serial: u32, guard: u32) -> Reply {
     tested(store, |store| {
         if bad_serial(serial) {
@@ -116,7 +120,7 @@ pub fn merge(store: &mut [u32], entry: u8) -> Reply {
     tested(store, |store| unchecked::merge(store, entry))
 }
 
-/// The guards of the tablet that holds an entry become 0.
+/// The entries of the tablet that holds an entry are barred.
 pub fn restart(store: &mut [u32], entry: u8) -> Reply {
     tested(store, |store| unchecked::restart(store, entry))
 }
@@ -154,12 +158,12 @@ pub mod unchecked {
         }
     }
 
-    /// A write that commits if the guard it carries is the entry's, and not 0.
+    /// A write that commits if the guard it carries is the entry's, and not barred.
     pub fn commit(store: &mut [u32], entry: u8, value: u32, serial: u32, guard: u32) -> Reply {
         if store.len() != STORE {
             return Reply::refused(21);
         }
-        if guard == 0 {
+        if guard == BARRED {
             return answer(2);
         }
         if guards::find_guard(&store[256..512], &store[512..768], u32::from(entry)) != guard {
@@ -203,7 +207,7 @@ pub mod unchecked {
         Reply::DONE
     }
 
-    /// The guards of the tablet that holds an entry become 0.
+    /// The entries of the tablet that holds an entry are barred.
     pub fn restart(store: &mut [u32], entry: u8) -> Reply {
         if store.len() != STORE {
             return Reply::refused(21);
@@ -211,7 +215,7 @@ pub mod unchecked {
         let e = usize::from(entry);
         let low = tablets::tablet_start(&store[..256], e);
         let high = tablets::tablet_limit(&store[..256], e);
-        guards::set_over(store, low, high, 0);
+        guards::set_over(store, low, high, BARRED);
         Reply::DONE
     }
 }
