@@ -3,11 +3,14 @@
 use calls::{Fields, Library, Reply, Request, Step, KINDS};
 use model::codec::{self, MARK};
 use model::numbers::MAX_SERIAL;
+use model::reply::code;
 use model::rules;
+use model::state::State;
 use model::tables::{self, decode_store, tables_of};
 
 use crate::cells::{Call, Counts, FIND_INTERVAL};
 use crate::oracle::RIGHT;
+use crate::situations::{OnLoad, Situation};
 
 /// What is called.
 #[derive(Clone, Debug)]
@@ -211,7 +214,8 @@ impl Case {
         for (at, &step) in steps.iter().enumerate() {
             let model = match &mut state {
                 Ok(state) => {
-                    let reply = rules::step(state, step);
+                    let (reply, found) = right_step(state, step);
+                    counts.note_situations(found);
                     if !reply.is_refusal() {
                         right = tables_of(state);
                     }
@@ -220,9 +224,6 @@ impl Case {
                 Err(error) => Reply::from(error.refusal()),
             };
             counts.note(Call::Step(step.kind()), model.code);
-            if let (Step::FindInterval { entry }, Ok(state)) = (step, &state) {
-                counts.note_interval(Call::Step(step.kind()), &state.store, entry);
-            }
             counts.steps += 1;
             let said = library.step(&mut store, &mut players, step.into());
             let what = replies_differ(said, model)
@@ -311,18 +312,46 @@ impl Case {
                 let (name, expected) = on_store(&model, &mut right.0, *call);
                 counts.note(name, expected[0]);
                 if expected[0] == 0 {
-                    counts.note_outcome(name, expected[1]);
-                }
-                if let StoreCall::FindInterval { entry } = *call {
-                    if let Ok(store) = decode_store(&right.0, MAX_SERIAL) {
-                        counts.note_interval(name, &store, entry);
-                    }
+                    counts.note_situations([Situation::Outcome(name, expected[1])]);
+                    counts.note_situations(met(&self.store, *call));
                 }
                 numbers_differ(&on_store(library, &mut store, *call).1, &expected)
             }
         };
         what.or_else(|| first_difference("store's table, word", &store, &right.0))
             .or_else(|| first_difference("players' table, word", &players, &right.1))
+    }
+}
+
+/// The model's step, and the situations that it meets: those of a step that takes place. (A read from
+/// memory sends nothing.)
+fn right_step(state: &mut State, step: Step) -> (Reply, Vec<Situation>) {
+    let mut found: Vec<Situation> = match step {
+        Step::FindInterval { entry } => {
+            Situation::intervals(Call::Step(step.kind()), &state.store, entry)
+        }
+        _ => OnLoad::of(state, step)
+            .into_iter()
+            .map(Situation::Load)
+            .collect(),
+    };
+    let reply = rules::step(state, step);
+    if reply.is_refusal() || reply.code == code::FROM_MEMORY {
+        found.clear();
+    }
+    (reply, found)
+}
+
+/// The situations that a call of the store used alone meets on a table that keeps the rules.
+fn met(store: &[u32], call: StoreCall) -> Vec<Situation> {
+    match (call, decode_store(store, MAX_SERIAL)) {
+        (StoreCall::FindInterval { entry }, Ok(store)) => {
+            Situation::intervals(Call::StoreFindInterval, &store, entry)
+        }
+        (StoreCall::Write { entry, guard, .. }, Ok(store)) => {
+            vec![Situation::carried(&store, entry, guard)]
+        }
+        _ => Vec::new(),
     }
 }
 

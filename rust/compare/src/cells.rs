@@ -5,13 +5,15 @@
 //! header of the exported calls (26, and 27 for a field that the kind lacks).
 
 use calls::{Step, KINDS};
-use model::faults::NoFault;
 use model::rules::REPLIES;
-use model::store::Store;
-use model::table_rules::TableRule;
+
+use crate::situations::Situation;
 
 /// The kind that finds a guard interval. A library that knows it has the store's call too.
 pub const FIND_INTERVAL: u8 = Step::FindInterval { entry: 0 }.kind();
+
+/// The kind that sends a load.
+pub const LOAD: u8 = Step::Load { entry: 0, value: 0 }.kind();
 
 /// A call, for a step also its kind.
 #[derive(Clone, Copy, Debug, PartialEq, Eq)]
@@ -42,7 +44,7 @@ pub enum Call {
 
 impl Call {
     /// The kind that a library must know to have this call, 0 for none.
-    fn needs(self) -> u8 {
+    pub fn needs(self) -> u8 {
         match self {
             Call::Step(kind) | Call::Encode(kind) => kind,
             Call::StoreFindInterval => FIND_INTERVAL,
@@ -58,8 +60,7 @@ const OF_EVERY_STEP: [u32; 3] = [21, 22, 27];
 const OF_EVERY_RECORD: [u32; 3] = [0, 27, 36];
 
 /// What each other call can reply. A run's reply is why it stopped; [`Call::Marked`] gives 0 or 1;
-/// the two of `store_write` and `store_set_guard` that differ in the first number are cells of
-/// [`OUTCOMES`].
+/// the two of `store_write` and `store_set_guard` that differ in the first number are situations.
 const OTHERS: &[(Call, &[u32])] = &[
     // Document 02 §1: "26 means a kind not in force".
     (Call::Step(0), &[26]),
@@ -89,59 +90,6 @@ const OTHERS: &[(Call, &[u32])] = &[
     (Call::StoreRestart, &[0, 21, 22]),
 ];
 
-/// "An outcome is 1 or 2 (set or layout changed; committed or turned back)": of the store used alone.
-pub const OUTCOMES: &[(Call, u32)] = &[
-    (Call::StoreWrite, 1),
-    (Call::StoreWrite, 2),
-    (Call::StoreSetGuard, 1),
-    (Call::StoreSetGuard, 2),
-];
-
-/// The calls that find a guard interval.
-const FINDERS: [Call; 2] = [Call::Step(FIND_INTERVAL), Call::StoreFindInterval];
-
-/// What a guard interval can be like, for each of those calls.
-#[derive(Clone, Copy, Debug, PartialEq, Eq)]
-enum Shape {
-    /// It begins at entry 0.
-    FromEntry0,
-    /// It ends at entry 255.
-    ToEntry255,
-    /// The entry asked for is all of it.
-    OneEntry,
-    /// The entry asked for is neither its first nor its last.
-    AroundEntry,
-    /// It has a guard, and a boundary inside.
-    GuardedAcross,
-    /// Its guard is 0, and it has a boundary inside.
-    UnguardedAcross,
-}
-
-impl Shape {
-    const ALL: [Shape; 6] = [
-        Shape::FromEntry0,
-        Shape::ToEntry255,
-        Shape::OneEntry,
-        Shape::AroundEntry,
-        Shape::GuardedAcross,
-        Shape::UnguardedAcross,
-    ];
-
-    /// Whether the interval of this entry is so.
-    fn is_of(self, store: &Store, entry: u8) -> bool {
-        let found = store.find_interval(entry, &NoFault);
-        let across = store.boundaries[found.first + 1..=found.last].contains(&true);
-        match self {
-            Shape::FromEntry0 => found.first == 0,
-            Shape::ToEntry255 => found.last == 255,
-            Shape::OneEntry => found.first == found.last,
-            Shape::AroundEntry => (found.first + 1..found.last).contains(&usize::from(entry)),
-            Shape::GuardedAcross => across && found.guard != 0,
-            Shape::UnguardedAcross => across && found.guard == 0,
-        }
-    }
-}
-
 /// Numbers of replies are below this.
 const CODES: usize = 64;
 
@@ -163,13 +111,11 @@ impl Row {
     }
 }
 
-/// How often each reply was seen.
+/// How often each reply and each situation was seen.
 #[derive(Clone, Debug)]
 pub struct Counts {
     rows: Vec<Row>,
-    outcomes: [u64; 4],
-    shapes: [[u64; Shape::ALL.len()]; FINDERS.len()],
-    rules: [u64; TableRule::ALL.len()],
+    situations: Vec<(Situation, u64)>,
     /// Steps played, one by one or in runs.
     pub steps: u64,
     /// Runs over damaged, cut, over-long or random bytes.
@@ -189,9 +135,7 @@ impl Default for Counts {
             .map(|&(call, can)| Row::new(call, can.to_vec()));
         Counts {
             rows: steps.chain(records).chain(others).collect(),
-            outcomes: [0; 4],
-            shapes: [[0; Shape::ALL.len()]; FINDERS.len()],
-            rules: [0; TableRule::ALL.len()],
+            situations: Situation::all().into_iter().map(|s| (s, 0)).collect(),
             steps: 0,
             damaged: 0,
         }
@@ -216,26 +160,13 @@ impl Counts {
         }
     }
 
-    /// The first number of a reply 0 of the store used alone.
-    pub fn note_outcome(&mut self, call: Call, outcome: u32) {
-        if let Some(at) = OUTCOMES.iter().position(|cell| *cell == (call, outcome)) {
-            self.outcomes[at] += 1;
-        }
-    }
-
-    /// A guard interval that a call finds: that of this entry.
-    pub fn note_interval(&mut self, call: Call, store: &Store, entry: u8) {
-        if let Some(at) = FINDERS.iter().position(|finder| *finder == call) {
-            for (shape, count) in Shape::ALL.into_iter().zip(&mut self.shapes[at]) {
-                *count += u64::from(shape.is_of(store, entry));
+    /// Situations; those that need not occur are passed over.
+    pub fn note_situations(&mut self, found: impl IntoIterator<Item = Situation>) {
+        for situation in found {
+            let mut all = self.situations.iter_mut();
+            if let Some((_, count)) = all.find(|(other, _)| *other == situation) {
+                *count += 1;
             }
-        }
-    }
-
-    /// A refusal 22 for breaking this rule.
-    pub fn note_rule(&mut self, rule: TableRule) {
-        if let Some(at) = TableRule::ALL.iter().position(|other| *other == rule) {
-            self.rules[at] += 1;
         }
     }
 
@@ -272,33 +203,14 @@ impl Counts {
             }
             text.push('\n');
         }
-        for ((call, outcome), count) in OUTCOMES.iter().zip(self.outcomes) {
-            text.push_str(&format!("{} outcome {outcome}: {count}\n", name(*call)));
-            if count == 0 {
-                wrong.push(format!("{} never had outcome {outcome}", name(*call)));
-            } else {
-                good += 1;
-            }
-        }
-        for (call, counts) in FINDERS.iter().zip(self.shapes) {
-            if call.needs() > kinds {
+        text.push_str("situation: count\n");
+        for (situation, count) in &self.situations {
+            if situation.needs() > kinds {
                 continue;
             }
-            text.push_str(&format!("guard intervals of {}:\n", name(*call)));
-            for (shape, count) in Shape::ALL.iter().zip(counts) {
-                text.push_str(&format!("    {shape:?}: {count}\n"));
-                if count == 0 {
-                    wrong.push(format!("{} never found one {shape:?}", name(*call)));
-                } else {
-                    good += 1;
-                }
-            }
-        }
-        text.push_str("22 for each rule broken alone:\n");
-        for (rule, count) in TableRule::ALL.iter().zip(self.rules) {
-            text.push_str(&format!("    {rule:?}: {count}\n"));
-            if count == 0 {
-                wrong.push(format!("no table broke {rule:?} alone"));
+            text.push_str(&format!("{situation:?}: {count}\n"));
+            if *count == 0 {
+                wrong.push(format!("{situation:?} never occurred"));
             } else {
                 good += 1;
             }

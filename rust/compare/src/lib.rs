@@ -6,7 +6,8 @@
 //! | `oracle` | the model as a library, also with one of its faults |
 //! | `case` | one case: start tables and what is called; how library and model differ on it |
 //! | `shrink` | a failing case made small, and printed as a session file |
-//! | `cells` | which replies each call can give, written down from document 01, and counts of them |
+//! | `cells` | which replies each call can give, written down from the documents, and counts of them |
+//! | `situations` | what else must occur: sorts of guards and guard intervals, loads, broken tables |
 //! | `suites` | the cases, in groups |
 //! | `wrong` | libraries that are wrong in one point each, to show that the comparison sees it |
 
@@ -17,5 +18,6 @@ pub mod case;
 pub mod cells;
 pub mod oracle;
 pub mod shrink;
+pub mod situations;
 pub mod suites;
 pub mod wrong;

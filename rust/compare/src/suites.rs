@@ -1,10 +1,10 @@
 //! The cases, in groups.
 
 use calls::{Fields, Library, Range, Request, Step, KINDS, MAPS};
-use model::broken::{break_rule, damage};
+use model::broken::{bar, break_rule, damage, SERIAL_RULES};
 use model::codec::{self, MARK, MAX_SESSION, RECORD_LENGTHS};
 use model::generate::{any_step, step_for, Profile};
-use model::numbers::MAX_SERIAL;
+use model::numbers::{BARRED, MAX_SERIAL, OPEN};
 use model::prng::Prng;
 use model::rules;
 use model::state::State;
@@ -13,8 +13,9 @@ use model::table_rules::{TableError, TableRule};
 use model::tables::{self, tables_of, PLAYERS_WORDS, STORE_WORDS};
 
 use crate::case::{Act, Case, StoreCall};
-use crate::cells::{Counts, FIND_INTERVAL};
+use crate::cells::{Counts, FIND_INTERVAL, LOAD};
 use crate::shrink::{print, shrink};
+use crate::situations::Situation;
 
 /// How much is tried, and from which seed.
 #[derive(Clone, Copy, Debug)]
@@ -135,7 +136,7 @@ impl<L: Library> Group<'_, L> {
         if rng.chance(30) {
             fields.kind = [0, KINDS + 1, KINDS + 2, 255, rng.below(256) as u8][rng.index(5)];
         }
-        match rng.below(8) {
+        match rng.below(7) {
             0 => fields.player = rng.below(3) as u8,
             1 => fields.entry = rng.below(3) as u8,
             2 => fields.high = [0, 1, 256, 0xFFFF][rng.index(4)],
@@ -283,7 +284,7 @@ fn late(group: &mut Group<impl Library>) {
     }
 }
 
-/// The same after about 64 reads that nothing delivers; player 0 has entry 0 in its memory.
+/// The same after about 64 reads and loads that nothing delivers; player 0 has entry 0 in its memory.
 fn crowded(group: &mut Group<impl Library>) {
     let range = Range::new(0, 1);
     let (player, entry) = (0, 0);
@@ -304,7 +305,10 @@ fn crowded(group: &mut Group<impl Library>) {
         let mut steps = prefix.to_vec();
         for _ in 0..group.rng.between(60, 76) {
             let (player, entry) = (group.rng.below(8) as u8, group.rng.below(3) as u8);
-            let step = Step::Read { player, entry };
+            let step = match group.kinds >= LOAD && group.rng.chance(30) {
+                true => Step::Load { entry, value: 1 },
+                false => Step::Read { player, entry },
+            };
             rules::step(&mut state, step);
             steps.push(step);
         }
@@ -486,13 +490,19 @@ fn strange_bytes(group: &mut Group<impl Library>) {
     }
 }
 
-/// Tables that break one rule: 22 from every call, and nothing changed.
+/// Tables that break one rule, also by barred where a serial may stand: 22 from every call, and nothing
+/// changed.
 fn broken_rules(group: &mut Group<impl Library>) {
+    let broken = TableRule::ALL.map(|rule| (rule, Situation::Broken(rule)));
+    let barred = SERIAL_RULES.map(|rule| (rule, Situation::BarredAs(rule)));
     for _ in 0..group.plan.share(40) {
-        for rule in TableRule::ALL {
-            let (store, players) = break_rule(&mut group.rng, rule);
+        for (rule, situation) in broken.into_iter().chain(barred) {
+            let (store, players) = match situation {
+                Situation::BarredAs(rule) => bar(&mut group.rng, rule),
+                _ => break_rule(&mut group.rng, rule),
+            };
             if tables::decode(&store, &players) == Err(TableError::Rule(rule)) {
-                group.counts.note_rule(rule);
+                group.counts.note_situations([situation]);
             }
             let acts = [
                 Act::Check,
@@ -514,10 +524,11 @@ fn changed_words(group: &mut Group<impl Library>) {
         let state = any_state(&mut group.rng);
         let (mut store, mut players) = tables_of(&state);
         for _ in 0..group.rng.between(1, 2) {
-            let word = match group.rng.below(4) {
+            let word = match group.rng.below(5) {
                 0 => group.rng.below(300),
                 1 => (state.last_serial + group.rng.below(3)).saturating_sub(1),
                 2 => MAX_SERIAL + group.rng.below(2),
+                3 => BARRED - group.rng.below(2),
                 _ => group.rng.word(),
             };
             match group.rng.below(3) {
@@ -718,16 +729,15 @@ fn serial(rng: &mut Prng) -> u32 {
     }
 }
 
-/// The store used alone: any call on any table. Writes carry the entry's guard in half of the cases.
+/// The store used alone: any call on any table. Writes often carry the entry's guard, 0 or barred.
 fn store_alone(group: &mut Group<impl Library>) {
     for _ in 0..group.plan.share(20_000) {
         let state = any_state(&mut group.rng);
         let (store, _) = tables_of(&state);
         let mut call = group.any_store_call();
         if let StoreCall::Write { entry, guard, .. } = &mut call {
-            if group.rng.chance(50) {
-                *guard = state.store.guards[usize::from(*entry)];
-            }
+            let own = state.store.guards[usize::from(*entry)];
+            *guard = [own, own, *guard, OPEN, BARRED][group.rng.index(5)];
         }
         let case = Case {
             store,

@@ -61,7 +61,7 @@ pub enum Point {
     LeavesWords,
     /// A new write is overlapped by a pending read too.
     ReadOverlapsWrite,
-    /// Guards of equal neighbouring intervals are not joined at a tablet restart.
+    /// Barred entries of neighbouring intervals are not joined at a tablet restart.
     NeighboursNotJoined,
     /// Fields that a kind lacks are passed over.
     StrangeFieldsTaken,
@@ -89,6 +89,8 @@ pub enum Point {
     CountsUnused,
     /// The player is tested before the list's length.
     PlayerBeforePlaces,
+    /// Player 8 is not refused: loads are counted.
+    CountsLoads,
     /// The store used alone takes serial 0.
     StoreSerialZero,
     /// The store used alone takes serials above 4,000,000.
@@ -103,7 +105,7 @@ pub enum Point {
 
 impl Point {
     /// Every point.
-    pub const ALL: [Point; 41] = [
+    pub const ALL: [Point; 42] = [
         Point::RefusesEachStep,
         Point::RepliesOneToAll,
         Point::SetsNothing,
@@ -140,6 +142,7 @@ impl Point {
         Point::CountsMarkTwo,
         Point::CountsUnused,
         Point::PlayerBeforePlaces,
+        Point::CountsLoads,
         Point::StoreSerialZero,
         Point::StoreSerialAbove,
         Point::StoreGuardEndsEarly,
@@ -266,8 +269,9 @@ impl Library for Wrong {
             }
             Point::NeighboursNotJoined if step.kind == 12 => {
                 let (starts, guards) = (tables::INTERVAL_STARTS, tables::INTERVAL_GUARDS);
-                if before.0[starts + 1] != 0 && store[starts + 1] == 0 && store[guards] == 0 {
+                if before.0[starts + 1] != 0 && store[starts + 1] == 0 {
                     store[starts + 1] = before.0[starts + 1];
+                    store[guards + 1] = store[guards];
                 }
                 reply
             }
@@ -388,6 +392,12 @@ impl Library for Wrong {
             return Reply::refused(28);
         }
         let mut list = list.to_vec();
+        if self.is(Point::CountsLoads) && player == 8 {
+            for request in &mut list {
+                request.player = if request.player == 8 { 0 } else { 8 };
+            }
+            return Port.waiting(&list, 0);
+        }
         for request in &mut list {
             let passed_over = self.is(Point::CountsAbandoned)
                 || self.is(Point::CountsMarkTwo) && request.abandoned == 2;

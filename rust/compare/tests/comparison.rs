@@ -1,7 +1,7 @@
 //! The port agrees with the model, every cell is filled, and the comparison sees every wrong library.
 
 use calls::{Library, KINDS};
-use compare::cells::{Call, Counts, FIND_INTERVAL};
+use compare::cells::{Call, Counts, FIND_INTERVAL, LOAD};
 use compare::oracle::RIGHT;
 use compare::suites::{run_all, Plan};
 use compare::wrong::try_all;
@@ -35,8 +35,9 @@ fn every_cell_is_filled() {
     run_all(&RIGHT, plan, &mut counts);
     let (_, wrong, cells) = counts.table(KINDS);
     assert!(wrong.is_empty(), "{wrong:?}");
-    assert_eq!(cells, 246);
+    assert_eq!(cells, 301);
     assert!(counts.seen(Call::Step(FIND_INTERVAL), 9) > 1_000);
+    assert!(counts.seen(Call::Step(LOAD), 1) > 1_000);
 }
 
 /// Every library that is wrong in one point is caught, and the case is printed.
@@ -54,5 +55,5 @@ fn wrong_libraries_are_caught() {
         assert!(text.contains("library"), "{}: {text}", library.name);
         tried += 1;
     });
-    assert_eq!(tried, 112);
+    assert_eq!(tried, 135);
 }

@@ -5,7 +5,7 @@ use calls::{bit, has, Fields, Range, Step, KINDS};
 
 use crate::numbers::{Entries, ENTRIES, MAX_SERIAL, NOBODY, PLAYERS};
 use crate::prng::Prng;
-use crate::state::{Request, State};
+use crate::state::{Operation, Request, State};
 
 /// What the steps of one list are drawn from. Each list has its own profile, so that some lists
 /// have long delays, some many restarts, some no splits at all.
@@ -346,12 +346,25 @@ fn small_or_any(rng: &mut Prng, bound: u32) -> u32 {
     }
 }
 
+/// All entries, or that of a read, write or load in flight.
+fn any_window(rng: &mut Prng, state: &State) -> Range {
+    let used = match rng.pick(&state.requests).map(|request| request.operation) {
+        Some(Operation::Read { entry, .. } | Operation::Write { entry, .. }) => Some(entry),
+        _ => None,
+    };
+    match used {
+        Some(entry) if rng.chance(40) => Range::new(entry, u16::from(entry) + 1),
+        _ => Range::new(0, ENTRIES as u16),
+    }
+}
+
 /// A step of the kinds 1 up to this one for any state: the numbers are often those of the state.
 pub fn step_for(rng: &mut Prng, state: &State, kinds: u8) -> Step {
+    let window = any_window(rng, state);
     let mut profile = Profile {
         kinds,
         players: PLAYERS as u8,
-        window: Range::new(0, ENTRIES as u16),
+        window,
         weights: WEIGHTS,
         whole: 5,
         by_owner: 80,

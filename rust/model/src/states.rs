@@ -7,6 +7,9 @@ use crate::prng::Prng;
 use crate::state::{Cached, Operation, Request, State};
 use crate::store::{GuardOutcome, Versioned, WriteOutcome};
 
+/// The entries of many requests.
+const COMMON_ENTRIES: [u8; 2] = [0, 1];
+
 /// A few serials that a table may hold: 0, the last one and some between.
 fn serial_pool(rng: &mut Prng, last_serial: u32) -> [u32; 8] {
     let mut pool = [0; 8];
@@ -47,7 +50,7 @@ pub fn any_state(rng: &mut Prng) -> State {
     for boundary in &mut state.store.boundaries[1..] {
         *boundary = rng.chance(boundaries);
     }
-    fill_ranges(rng, &mut state.store.guards, |rng| match rng.below(4) {
+    fill_ranges(rng, &mut state.store.guards, |rng| match rng.below(3) {
         0 => BARRED,
         _ => serial(rng),
     });
@@ -61,12 +64,26 @@ pub fn any_state(rng: &mut Prng) -> State {
             any_cached(rng, serial)
         });
     }
+    for entry in COMMON_ENTRIES {
+        if rng.chance(50) && last_serial > 0 {
+            make_live(rng, &mut state, usize::from(entry));
+        }
+    }
     let count = [0, 2, 10, MAX_REQUESTS as u32 - 1, MAX_REQUESTS as u32][rng.index(5)];
     for request in request_serials(rng, count, last_serial) {
         let request = any_request(rng, request, serial);
         state.requests.push(request);
     }
     state
+}
+
+/// A player owns the entry, and its guard is live.
+fn make_live(rng: &mut Prng, state: &mut State, entry: usize) {
+    let player = rng.below(PLAYERS as u32) as u8;
+    let guard = rng.between(1, state.last_serial);
+    state.owners[entry] = player;
+    state.epochs[entry] = rng.below(guard);
+    state.held[usize::from(player)][entry] = guard;
 }
 
 fn any_cached(rng: &mut Prng, serial: impl Fn(&mut Prng) -> u32) -> Cached {
@@ -97,7 +114,8 @@ fn request_serials(rng: &mut Prng, count: u32, last_serial: u32) -> Vec<u32> {
 fn any_request(rng: &mut Prng, own: u32, serial: impl Fn(&mut Prng) -> u32) -> Request {
     let low = rng.below(256);
     let range = Range::new(low as u8, rng.between(low + 1, 256) as u16);
-    let entry = [low as u8, 0, 1][rng.index(3)];
+    let [one, other] = COMMON_ENTRIES;
+    let entry = [low as u8, one, other][rng.index(3)];
     let below = |number: u32| if number < own { number } else { own - 1 };
     let guard = below(serial(rng));
     let overlapped = rng.chance(30);

@@ -1,0 +1,288 @@
+//! Situations that must occur, beside the replies: what kinds of guards, guard intervals, loads and
+//! broken tables a call meets.
+
+use calls::Step;
+use model::broken::SERIAL_RULES;
+use model::faults::NoFault;
+use model::numbers::{BARRED, OPEN};
+use model::state::{Operation, Request, State};
+use model::store::{Store, WriteOutcome};
+use model::table_rules::TableRule;
+
+use crate::cells::{Call, FIND_INTERVAL, LOAD};
+
+/// What a guard is, of an entry or carried.
+#[derive(Clone, Copy, Debug, PartialEq, Eq)]
+#[allow(missing_docs)]
+pub enum Guard {
+    Open,
+    /// Any other number.
+    Serial,
+    Barred,
+}
+
+impl Guard {
+    const ALL: [Guard; 3] = [Guard::Open, Guard::Serial, Guard::Barred];
+
+    fn of(number: u32) -> Guard {
+        match number {
+            OPEN => Guard::Open,
+            BARRED => Guard::Barred,
+            _ => Guard::Serial,
+        }
+    }
+
+    fn of_entry(store: &Store, entry: u8) -> Guard {
+        Guard::of(store.guards[usize::from(entry)])
+    }
+}
+
+/// What a guard interval is like, for each call that finds one.
+#[derive(Clone, Copy, Debug, PartialEq, Eq)]
+pub enum Shape {
+    /// It begins at entry 0.
+    FromEntry0,
+    /// It ends at entry 255.
+    ToEntry255,
+    /// The entry asked for is all of it.
+    OneEntry,
+    /// The entry asked for is neither its first nor its last.
+    AroundEntry,
+    /// It has such a guard, and a boundary inside.
+    Across(Guard),
+    /// It is barred, and the entry before or behind it is open.
+    BarredBesideOpen,
+}
+
+impl Shape {
+    const ALL: [Shape; 8] = [
+        Shape::FromEntry0,
+        Shape::ToEntry255,
+        Shape::OneEntry,
+        Shape::AroundEntry,
+        Shape::Across(Guard::Open),
+        Shape::Across(Guard::Serial),
+        Shape::Across(Guard::Barred),
+        Shape::BarredBesideOpen,
+    ];
+
+    /// Whether the interval of this entry is so.
+    fn is_of(self, store: &Store, entry: u8) -> bool {
+        let found = store.find_interval(entry, &NoFault);
+        let guard = Guard::of(found.guard);
+        match self {
+            Shape::FromEntry0 => found.first == 0,
+            Shape::ToEntry255 => found.last == 255,
+            Shape::OneEntry => found.first == found.last,
+            Shape::AroundEntry => (found.first + 1..found.last).contains(&usize::from(entry)),
+            Shape::Across(own) => {
+                own == guard && store.boundaries[found.first + 1..=found.last].contains(&true)
+            }
+            Shape::BarredBesideOpen => {
+                let before = found.first.checked_sub(1).map(|at| store.guards[at]);
+                let behind = store.guards.get(found.last + 1).copied();
+                guard == Guard::Barred && [before, behind].contains(&Some(OPEN))
+            }
+        }
+    }
+}
+
+/// What a step has to do with a load.
+#[derive(Clone, Copy, Debug, PartialEq, Eq)]
+pub enum OnLoad {
+    /// Step 15, at an entry with such a guard.
+    SentAt(Guard),
+    /// Step 15, beside a pending read on the entry.
+    SentBesideRead,
+    /// Step 15, beside a pending write of a player on the entry.
+    SentBesideWrite,
+    /// Step 15, beside a pending load on the entry.
+    SentBesideLoad,
+    /// Step 4, to the store, beside a pending load on the entry.
+    BesideRead,
+    /// Step 5, beside a pending load on the entry.
+    BesideWrite,
+    /// Step 6 of a pending load, at an entry with such a guard.
+    ArrivesAt(Guard),
+    /// Step 6 of a load that is given up, at an entry with such a guard.
+    AbandonedArrivesAt(Guard),
+    /// Step 7 of a load with this outcome.
+    Answered(WriteOutcome),
+    /// Step 8 of a load that is not delivered.
+    Abandoned,
+    /// Step 8 of a load with this outcome.
+    AbandonedWith(WriteOutcome),
+    /// Step 9 of a load.
+    Lost,
+    /// Step 13, beside a pending load.
+    BesidePlayerRestart,
+}
+
+impl OnLoad {
+    const ALL: [OnLoad; 21] = [
+        OnLoad::SentAt(Guard::Open),
+        OnLoad::SentAt(Guard::Serial),
+        OnLoad::SentAt(Guard::Barred),
+        OnLoad::SentBesideRead,
+        OnLoad::SentBesideWrite,
+        OnLoad::SentBesideLoad,
+        OnLoad::BesideRead,
+        OnLoad::BesideWrite,
+        OnLoad::ArrivesAt(Guard::Open),
+        OnLoad::ArrivesAt(Guard::Serial),
+        OnLoad::ArrivesAt(Guard::Barred),
+        OnLoad::AbandonedArrivesAt(Guard::Open),
+        OnLoad::AbandonedArrivesAt(Guard::Serial),
+        OnLoad::AbandonedArrivesAt(Guard::Barred),
+        OnLoad::Answered(WriteOutcome::Committed),
+        OnLoad::Answered(WriteOutcome::Rejected),
+        OnLoad::Abandoned,
+        OnLoad::AbandonedWith(WriteOutcome::Committed),
+        OnLoad::AbandonedWith(WriteOutcome::Rejected),
+        OnLoad::Lost,
+        OnLoad::BesidePlayerRestart,
+    ];
+
+    /// Whether it is of step 15.
+    fn is_sending(self) -> bool {
+        matches!(
+            self,
+            OnLoad::SentAt(_)
+                | OnLoad::SentBesideRead
+                | OnLoad::SentBesideWrite
+                | OnLoad::SentBesideLoad
+        )
+    }
+
+    /// What a step on this state, if it takes place, has to do with loads.
+    pub fn of(state: &State, step: Step) -> Vec<OnLoad> {
+        let is_pending_load = |r: &&Request| r.is_load() && r.is_pending();
+        let loads = || state.requests.iter().filter(is_pending_load);
+        let beside = |entry: u8, found: OnLoad| {
+            let any = loads().any(|load| load.writes(entry));
+            any.then_some(found).into_iter().collect()
+        };
+        match step {
+            Step::Load { entry, .. } => sending(state, entry),
+            Step::Read { entry, .. } => beside(entry, OnLoad::BesideRead),
+            Step::Write { entry, .. } => beside(entry, OnLoad::BesideWrite),
+            Step::RestartPlayer { .. } => {
+                let any = loads().next();
+                any.map(|_| OnLoad::BesidePlayerRestart)
+                    .into_iter()
+                    .collect()
+            }
+            Step::Deliver { serial }
+            | Step::Respond { serial }
+            | Step::Abandon { serial }
+            | Step::Lose { serial } => {
+                let mut requests = state.requests.iter();
+                let its = requests.find(|r| r.serial == serial && r.is_load());
+                its.and_then(|load| on_its_way(&state.store, load, step))
+                    .into_iter()
+                    .collect()
+            }
+            _ => Vec::new(),
+        }
+    }
+}
+
+/// What stands beside a load that is sent.
+fn sending(state: &State, on: u8) -> Vec<OnLoad> {
+    let beside = |request: &Request| match request.operation {
+        Operation::Read { entry, .. } if entry == on => Some(OnLoad::SentBesideRead),
+        Operation::Write { entry, .. } if entry == on && request.is_load() => {
+            Some(OnLoad::SentBesideLoad)
+        }
+        Operation::Write { entry, .. } if entry == on => Some(OnLoad::SentBesideWrite),
+        _ => None,
+    };
+    let pending = state.requests.iter().filter(|r| r.is_pending());
+    let mut found: Vec<OnLoad> = pending.filter_map(beside).collect();
+    found.push(OnLoad::SentAt(Guard::of_entry(&state.store, on)));
+    found
+}
+
+/// What one of steps 6 to 9 does with a load in flight.
+fn on_its_way(store: &Store, load: &Request, step: Step) -> Option<OnLoad> {
+    let Operation::Write { entry, outcome, .. } = load.operation else {
+        return None;
+    };
+    let guard = Guard::of_entry(store, entry);
+    match step {
+        Step::Deliver { .. } if load.abandoned => Some(OnLoad::AbandonedArrivesAt(guard)),
+        Step::Deliver { .. } => Some(OnLoad::ArrivesAt(guard)),
+        Step::Respond { .. } => outcome.map(OnLoad::Answered),
+        Step::Abandon { .. } => Some(outcome.map_or(OnLoad::Abandoned, OnLoad::AbandonedWith)),
+        Step::Lose { .. } => Some(OnLoad::Lost),
+        _ => None,
+    }
+}
+
+/// A situation.
+#[derive(Clone, Copy, Debug, PartialEq, Eq)]
+pub enum Situation {
+    /// A reply 0 of the store used alone with this first number: "An outcome is 1 or 2 (set or layout
+    /// changed; committed or turned back)".
+    Outcome(Call, u32),
+    /// A write to the store used alone that carries the first, at an entry that has the second.
+    Carried(Guard, Guard),
+    /// A guard interval that a call finds.
+    Interval(Call, Shape),
+    /// A step on loads, or beside one.
+    Load(OnLoad),
+    /// A table that breaks this rule alone.
+    Broken(TableRule),
+    /// A table that breaks this rule alone, as barred stands where a serial may.
+    BarredAs(TableRule),
+}
+
+/// The calls that have an outcome.
+const OUTCOMES: [(Call, u32); 4] = [
+    (Call::StoreWrite, 1),
+    (Call::StoreWrite, 2),
+    (Call::StoreSetGuard, 1),
+    (Call::StoreSetGuard, 2),
+];
+
+/// The calls that find a guard interval.
+const FINDERS: [Call; 2] = [Call::Step(FIND_INTERVAL), Call::StoreFindInterval];
+
+impl Situation {
+    /// All.
+    pub fn all() -> Vec<Situation> {
+        let mut all = Vec::new();
+        all.extend(OUTCOMES.map(|(call, outcome)| Situation::Outcome(call, outcome)));
+        for carried in Guard::ALL {
+            all.extend(Guard::ALL.map(|own| Situation::Carried(carried, own)));
+        }
+        for call in FINDERS {
+            all.extend(Shape::ALL.map(|shape| Situation::Interval(call, shape)));
+        }
+        all.extend(OnLoad::ALL.map(Situation::Load));
+        all.extend(TableRule::ALL.map(Situation::Broken));
+        all.extend(SERIAL_RULES.map(Situation::BarredAs));
+        all
+    }
+
+    /// What a write to the store used alone carries, and what the entry has.
+    pub fn carried(store: &Store, entry: u8, guard: u32) -> Situation {
+        Situation::Carried(Guard::of(guard), Guard::of_entry(store, entry))
+    }
+
+    /// What the interval of this entry is like, for the call that finds it.
+    pub fn intervals(call: Call, store: &Store, entry: u8) -> Vec<Situation> {
+        let shapes = Shape::ALL.into_iter();
+        let its = shapes.filter(|shape| shape.is_of(store, entry));
+        its.map(|shape| Situation::Interval(call, shape)).collect()
+    }
+
+    /// The kind that a library must know for it to occur, 0 for none.
+    pub fn needs(self) -> u8 {
+        match self {
+            Situation::Outcome(call, _) | Situation::Interval(call, _) => call.needs(),
+            Situation::Load(load) if load.is_sending() => LOAD,
+            _ => 0,
+        }
+    }
+}
