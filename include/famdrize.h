@@ -24,15 +24,23 @@ extern "C" {
 
 /* The version of this header, and of the library that it is for. */
 #define FAMDRIZE_VERSION_MAJOR 0
-#define FAMDRIZE_VERSION_MINOR 3
+#define FAMDRIZE_VERSION_MINOR 4
 #define FAMDRIZE_VERSION_PATCH 0
-#define FAMDRIZE_VERSION "0.3.0"
+#define FAMDRIZE_VERSION "0.4.0"
 
 /* Words of the two tables; places of the lent list of requests; the last serial that can be issued. */
 #define FAMDRIZE_STORE_WORDS 1280
 #define FAMDRIZE_PLAYERS_WORDS 9473
 #define FAMDRIZE_REQUESTS 64
 #define FAMDRIZE_LAST_SERIAL 4000000
+
+/* Guards of the store's entries that are no serials: of an open entry, on which a load or another write that carries 0 commits; of a barred
+ * one, in a tablet that restarted, on which no write commits whatever it carries. An entry once guarded or barred is never open again. */
+#define FAMDRIZE_OPEN_GUARD 0u
+#define FAMDRIZE_BARRED 4294967295u
+
+/* What stands in place of a player's number in a request that is a load. (As the owner of an entry the same number is nobody.) */
+#define FAMDRIZE_LOADER 8
 
 /* Bytes of the longest session, of its mark and of the longest record; the most records that a session holds; words of one reply in the list
  * of a run. */
@@ -50,14 +58,15 @@ enum famdrize_kind {
     FAMDRIZE_READ = 4,            /* player, entry */
     FAMDRIZE_WRITE = 5,           /* player, entry, value */
     FAMDRIZE_DELIVER = 6,         /* serial: the request arrives at the store */
-    FAMDRIZE_RESPOND = 7,         /* serial: the answer reaches the player */
-    FAMDRIZE_ABANDON = 8,         /* serial: the player gives the request up */
+    FAMDRIZE_RESPOND = 7,         /* serial: the answer reaches the player, or the loader */
+    FAMDRIZE_ABANDON = 8,         /* serial: the player, or the loader, gives the request up */
     FAMDRIZE_LOSE = 9,            /* serial: the given-up request is lost */
     FAMDRIZE_SPLIT = 10,          /* entry */
     FAMDRIZE_MERGE = 11,          /* entry */
     FAMDRIZE_RESTART_TABLET = 12, /* entry */
     FAMDRIZE_RESTART_PLAYER = 13, /* player */
-    FAMDRIZE_FIND_INTERVAL = 14   /* entry: how far its guard reaches */
+    FAMDRIZE_FIND_INTERVAL = 14,  /* entry: how far its guard reaches */
+    FAMDRIZE_LOAD = 15            /* entry, value: a write of the loader, which carries 0 */
 };
 
 /* The codes of replies, each with the reply's two numbers a and b, and of refusals, whose numbers are 0. The reasons for which a run stops
@@ -136,6 +145,7 @@ FAMDRIZE_INLINE const char *famdrize_kind_words(uint32_t kind)
     case FAMDRIZE_RESTART_TABLET: return "tablet restart";
     case FAMDRIZE_RESTART_PLAYER: return "player restart";
     case FAMDRIZE_FIND_INTERVAL: return "how far a guard reaches";
+    case FAMDRIZE_LOAD: return "load";
     default: return "no kind of step";
     }
 }
@@ -224,7 +234,7 @@ typedef struct {
 /* Code 0 with the guard of an entry, and the first and the last entry of its guard interval; or the code of a refusal and zeros. */
 typedef struct {
     uint32_t code;
-    uint32_t guard;
+    uint32_t guard; /* a serial, FAMDRIZE_OPEN_GUARD or FAMDRIZE_BARRED */
     uint32_t first;
     uint32_t last;
 } famdrize_interval;
@@ -232,8 +242,8 @@ typedef struct {
 /* A request in flight, as one place of the lent list. A place that is not used has serial 0. A mark stands where its number is not 0. */
 typedef struct {
     uint32_t serial;
-    uint8_t player;
-    uint8_t kind; /* 3, 4 or 5 */
+    uint8_t player; /* 0 to 7; FAMDRIZE_LOADER of a load, which is of kind 5 and carries 0 */
+    uint8_t kind;   /* 3, 4 or 5 */
     uint8_t low;  /* the entry of a read or write, the first entry of a guard request */
     uint16_t high;
     uint32_t value;
@@ -283,7 +293,8 @@ bool famdrize_marked(const uint8_t *session, size_t session_bytes);
 
 /* ---- the requests in flight as a lent list of records */
 
-/* How many pending requests of the player the list holds: 0, count, 0; or 21 unless it has 64 places, then 28. Nothing else is tested. */
+/* How many pending requests of the player the list holds: 0, count, 0; or 21 unless it has 64 places, then 28, also for FAMDRIZE_LOADER.
+ * Nothing else is tested. */
 famdrize_reply famdrize_waiting(const famdrize_request *requests, size_t requests_places, uint8_t player);
 
 /* ---- the store used alone: its table of 1,280 words, without any player. Serials are 1 to 4,000,000. */
@@ -304,11 +315,12 @@ famdrize_reply famdrize_store_set_guard(uint32_t *store, size_t store_words, uin
 famdrize_reply famdrize_store_read(const uint32_t *store, size_t store_words, uint8_t entry);
 
 /* The guard of the entry, and the first and the last entry of its guard interval: code 0; or 21, 22 and zeros. The interval is the longest
- * row of neighbouring entries, this one among them, that have one guard, 0 or another; boundaries do not end it. */
+ * row of neighbouring entries, this one among them, that have one guard: a serial, FAMDRIZE_OPEN_GUARD or FAMDRIZE_BARRED. Boundaries do not
+ * end it. */
 famdrize_interval famdrize_store_find_interval(const uint32_t *store, size_t store_words, uint8_t entry);
 
-/* A write that carries a guard: 0 1 0 where it commits, since that guard is the entry's and not 0; else 0 2 0; or 21, 22, 28. The same
- * write handed in twice may commit twice. */
+/* A write that carries a guard, which is any number: 0 1 0 where it commits, since that guard is the entry's and not FAMDRIZE_BARRED; else
+ * 0 2 0; or 21, 22, 28. A load carries FAMDRIZE_OPEN_GUARD. The same write handed in twice may commit twice. */
 famdrize_reply famdrize_store_write(uint32_t *store, size_t store_words, uint8_t entry, uint32_t value, uint32_t serial, uint32_t guard);
 
 /* Sets a boundary before the entry: 0 0 0; or 21, 22, 28 at entry 0, 35 where there is one. */
@@ -317,7 +329,7 @@ famdrize_reply famdrize_store_split(uint32_t *store, size_t store_words, uint8_t
 /* Removes the boundary before the entry: 0 0 0; or 21, 22, 28 at entry 0, 35 where there is none. */
 famdrize_reply famdrize_store_merge(uint32_t *store, size_t store_words, uint8_t entry);
 
-/* The guards of the tablet that holds the entry become 0: 0 0 0; or 21, 22. */
+/* The guards of the tablet that holds the entry become FAMDRIZE_BARRED: 0 0 0; or 21, 22. */
 famdrize_reply famdrize_store_restart(uint32_t *store, size_t store_words, uint8_t entry);
 
 #ifdef __cplusplus

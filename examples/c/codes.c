@@ -30,6 +30,9 @@ int main(void)
     printf("bytes of the longest record: %d\n", FAMDRIZE_RECORD_BYTES);
     printf("most records of a session: %d\n", FAMDRIZE_SESSION_RECORDS);
     printf("last serial: %d\n", FAMDRIZE_LAST_SERIAL);
+    printf("an open guard: %u\n", FAMDRIZE_OPEN_GUARD);
+    printf("barred: %u\n", FAMDRIZE_BARRED);
+    printf("the loader: %d\n", FAMDRIZE_LOADER);
     printf("bytes of the mark: %d\n", FAMDRIZE_MARK_BYTES);
     printf("words of a reply: %d\n", FAMDRIZE_REPLY_WORDS);
     return 0;

@@ -40,6 +40,13 @@ static void steps(void)
     print("find interval", step(FAMDRIZE_FIND_INTERVAL, 0, 45, 0, 0, 0)); /* the guard is not set yet */
     print("deliver", step(FAMDRIZE_DELIVER, 0, 0, 0, 0, 3));
     print("find interval", step(FAMDRIZE_FIND_INTERVAL, 0, 45, 0, 0, 0));
+    print("load", step(FAMDRIZE_LOAD, 0, 45, 0, 7, 0)); /* a guard is set there by now */
+    print("load", step(FAMDRIZE_LOAD, 0, 9, 0, 7, 0));
+    print("deliver", step(FAMDRIZE_DELIVER, 0, 0, 0, 0, 4));
+    print("deliver", step(FAMDRIZE_DELIVER, 0, 0, 0, 0, 5));
+    print("respond", step(FAMDRIZE_RESPOND, 0, 0, 0, 0, 4));
+    print("respond", step(FAMDRIZE_RESPOND, 0, 0, 0, 0, 5));
+    print("load with a player", step(FAMDRIZE_LOAD, FAMDRIZE_LOADER, 9, 0, 7, 0));
     print("split with a value", step(FAMDRIZE_SPLIT, 0, 128, 0, 1, 0));
     print("kind 200", step(200, 0, 0, 0, 0, 0));
     print("check", famdrize_check(store, FAMDRIZE_STORE_WORDS, players, FAMDRIZE_PLAYERS_WORDS));
@@ -52,14 +59,19 @@ static void store_alone(void)
     print("split", famdrize_store_split(store, FAMDRIZE_STORE_WORDS, 128));
     print("set guard", famdrize_store_set_guard(store, FAMDRIZE_STORE_WORDS, 40, 60, 2));
     print_interval("find interval", famdrize_store_find_interval(store, FAMDRIZE_STORE_WORDS, 45));
-    print_interval("find interval", famdrize_store_find_interval(store, FAMDRIZE_STORE_WORDS, 127)); /* no guard, and a boundary inside */
+    print_interval("find interval", famdrize_store_find_interval(store, FAMDRIZE_STORE_WORDS, 127)); /* open, and a boundary inside */
     print_interval("find interval, one word less", famdrize_store_find_interval(store, FAMDRIZE_STORE_WORDS - 1, 45));
     print("write", famdrize_store_write(store, FAMDRIZE_STORE_WORDS, 45, 7, 3, 2));
     print("write", famdrize_store_write(store, FAMDRIZE_STORE_WORDS, 45, 8, 4, 1));
+    print("load", famdrize_store_write(store, FAMDRIZE_STORE_WORDS, 45, 8, 4, FAMDRIZE_OPEN_GUARD));
+    print("load", famdrize_store_write(store, FAMDRIZE_STORE_WORDS, 60, 8, 4, FAMDRIZE_OPEN_GUARD));
     print("read", famdrize_store_read(store, FAMDRIZE_STORE_WORDS, 45));
     print("restart", famdrize_store_restart(store, FAMDRIZE_STORE_WORDS, 45));
     print_interval("find interval", famdrize_store_find_interval(store, FAMDRIZE_STORE_WORDS, 45));
+    print_interval("find interval", famdrize_store_find_interval(store, FAMDRIZE_STORE_WORDS, 128)); /* open, behind what is barred */
     print("write", famdrize_store_write(store, FAMDRIZE_STORE_WORDS, 45, 9, 5, 2));
+    print("load", famdrize_store_write(store, FAMDRIZE_STORE_WORDS, 60, 9, 5, FAMDRIZE_OPEN_GUARD));
+    print("write that carries barred", famdrize_store_write(store, FAMDRIZE_STORE_WORDS, 60, 9, 5, FAMDRIZE_BARRED));
     print("merge", famdrize_store_merge(store, FAMDRIZE_STORE_WORDS, 128));
     print("merge again", famdrize_store_merge(store, FAMDRIZE_STORE_WORDS, 128));
     print("check", famdrize_store_check(store, FAMDRIZE_STORE_WORDS));
@@ -90,8 +102,9 @@ static void waiting(void)
     requests[1] = (famdrize_request){.serial = 2, .player = 3, .kind = FAMDRIZE_READ, .low = 46, .abandoned = 1};
     requests[2] = (famdrize_request){.serial = 4, .player = 3, .kind = FAMDRIZE_READ, .low = 47};
     requests[3] = (famdrize_request){.serial = 5, .player = 3, .kind = FAMDRIZE_READ, .low = 48, .abandoned = 255}; /* a mark as well */
+    requests[4] = (famdrize_request){.serial = 6, .player = FAMDRIZE_LOADER, .kind = FAMDRIZE_WRITE, .low = 45, .value = 7};
     print("waiting", famdrize_waiting(requests, FAMDRIZE_REQUESTS, 3));
-    print("waiting of player 8", famdrize_waiting(requests, FAMDRIZE_REQUESTS, 8));
+    print("waiting of the loader", famdrize_waiting(requests, FAMDRIZE_REQUESTS, FAMDRIZE_LOADER));
     print("waiting, one place less", famdrize_waiting(requests, FAMDRIZE_REQUESTS - 1, 3));
 }
 

@@ -29,8 +29,8 @@ fn main() {
         (deliver(3), Reply::Done),
         (respond(3), Reply::Committed { serial: 3, value }),
         (read, Reply::CacheRead { version, value }),
-        // the store's guards become 0: what the player remembers stays right, and its next write
-        // is turned back
+        // the store's entries are barred: what the player remembers stays right, and its next
+        // write is turned back
         (Step::RestartTablet { entry }, Reply::Done),
         (read, Reply::CacheRead { version, value }),
         (write(8), issued(4)),

@@ -1,7 +1,7 @@
 //! The words for every code of a reply or refusal, and for every reason for which a run stops; the
 //! numbers that the crate names. codes.txt is what it prints.
 
-use famdrize::{Reply, Why, MOST_RECORDS, PLAYERS_WORDS};
+use famdrize::{Reply, Why, BARRED, LOADER, MOST_RECORDS, OPEN_GUARD, PLAYERS_WORDS};
 use famdrize::{RECORD_BYTES, REQUESTS, SESSION_BYTES, STORE_WORDS};
 
 fn main() {
@@ -25,4 +25,7 @@ fn main() {
     println!("bytes of the longest session: {SESSION_BYTES}");
     println!("bytes of the longest record: {RECORD_BYTES}");
     println!("most records of a session: {MOST_RECORDS}");
+    println!("an open guard: {OPEN_GUARD}");
+    println!("barred: {BARRED}");
+    println!("the loader: {LOADER}");
 }

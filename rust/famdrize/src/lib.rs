@@ -59,11 +59,12 @@ pub use numbers::{Player, Range, Serial};
 pub use owned::{Session, Store, Tables};
 pub use reply::{Refusal, Reply};
 pub use report::{Report, Why};
-pub use requests::{pending, Request, REQUESTS};
+pub use requests::{pending, Request, LOADER, REQUESTS};
 pub use session::{decode, encode, is_marked, put_mark, Record, SessionMut};
 pub use session::{MOST_RECORDS, RECORD_BYTES, SESSION_BYTES};
 pub use step::{Fields, Step};
-pub use store::{GuardOutcome, Interval, StoreMut, Versioned, WriteOutcome, STORE_WORDS};
+pub use store::{GuardOutcome, Interval, StoreMut, Versioned, WriteOutcome};
+pub use store::{BARRED, OPEN_GUARD, STORE_WORDS};
 pub use tables::{TablesMut, PLAYERS_WORDS};
 
 /// The programs of the README, which are tested as they stand there.

@@ -56,7 +56,7 @@ pub struct Report {
 pub struct Interval {
     /// 0, or the number of a refusal.
     pub code: u32,
-    /// The guard, 0 for none.
+    /// The guard: a serial, [`OPEN_GUARD`](crate::OPEN_GUARD) or [`BARRED`](crate::BARRED).
     pub guard: u32,
     /// The first entry.
     pub first: u32,
@@ -70,9 +70,9 @@ pub struct Interval {
 pub struct Request<Mark = u8> {
     /// Its serial, 0 where the place is not used.
     pub serial: u32,
-    /// Whose it is.
+    /// Whose it is: a player's, 0 to 7, or [`LOADER`](crate::LOADER) of a load.
     pub player: u8,
-    /// 3 guard request, 4 read, 5 write.
+    /// 3 guard request, 4 read, 5 write or load.
     pub kind: u8,
     /// The entry of a read or write, the first entry of a guard request.
     pub low: u8,
@@ -80,7 +80,7 @@ pub struct Request<Mark = u8> {
     pub high: u16,
     /// The value of a write, else 0.
     pub value: u32,
-    /// The guard carried.
+    /// The guard carried, 0 of a load.
     pub guard: u32,
     /// Whether a write of the same player on the entry crossed it.
     pub overlapped: Mark,
@@ -191,6 +191,6 @@ extern "C" {
     pub fn famdrize_store_split(store: *mut u32, store_words: usize, entry: u8) -> Reply;
     /// Removes the boundary before the entry: 0 0 0; or 21, 22, 28, 35.
     pub fn famdrize_store_merge(store: *mut u32, store_words: usize, entry: u8) -> Reply;
-    /// The guards of the tablet that holds the entry become 0: 0 0 0; or 21, 22.
+    /// The entries of the tablet that holds the entry are barred: 0 0 0; or 21, 22.
     pub fn famdrize_store_restart(store: *mut u32, store_words: usize, entry: u8) -> Reply;
 }

@@ -7,6 +7,10 @@ use crate::{raw, Player, Refusal, PLAYERS_WORDS};
 /// Places for requests in flight.
 pub const REQUESTS: usize = 64;
 
+/// What stands in place of a player's number in a request that is a load. (As the owner of an entry, in the words of a table, the same number
+/// is nobody.)
+pub const LOADER: u8 = 8;
+
 /// The first word of the requests region in the players' table, and the words of a place of it.
 const REGION: usize = 8705;
 const PLACE_WORDS: usize = 12;

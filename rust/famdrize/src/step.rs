@@ -48,12 +48,12 @@ pub enum Step {
         /// The request.
         serial: u32,
     },
-    /// 7: the answer reaches the player.
+    /// 7: the answer reaches the player, or the loader.
     Respond {
         /// The request.
         serial: u32,
     },
-    /// 8: the player gives the request up.
+    /// 8: the player, or the loader, gives the request up.
     Abandon {
         /// The request.
         serial: u32,
@@ -73,7 +73,7 @@ pub enum Step {
         /// The entry, not 0.
         entry: u8,
     },
-    /// 12: the guards of the tablet that holds the entry become 0.
+    /// 12: the entries of the tablet that holds the entry are [barred](crate::BARRED).
     RestartTablet {
         /// The entry.
         entry: u8,
@@ -87,6 +87,14 @@ pub enum Step {
     FindInterval {
         /// The entry.
         entry: u8,
+    },
+    /// 15: a write of the loader, which needs neither ownership nor a guard, and commits where the entry is [open](crate::OPEN_GUARD) when
+    /// it arrives. It is a request of [`LOADER`](crate::LOADER), and nobody remembers its answer.
+    Load {
+        /// The entry.
+        entry: u8,
+        /// The value.
+        value: u32,
     },
 }
 
@@ -112,9 +120,7 @@ impl fmt::Display for Step {
                 value,
             } => write!(f, "{player} writes {value} to entry {entry}"),
             Step::Deliver { serial } => write!(f, "request {serial} arrives at the store"),
-            Step::Respond { serial } => {
-                write!(f, "the answer to request {serial} reaches its player")
-            }
+            Step::Respond { serial } => write!(f, "request {serial} is answered"),
             Step::Abandon { serial } => write!(f, "request {serial} is given up"),
             Step::Lose { serial } => write!(f, "the given-up request {serial} is lost"),
             Step::Split { entry } => write!(f, "a tablet is split at entry {entry}"),
@@ -126,6 +132,7 @@ impl fmt::Display for Step {
             Step::FindInterval { entry } => {
                 write!(f, "it is asked how far the guard of entry {entry} reaches")
             }
+            Step::Load { entry, value } => write!(f, "the loader loads {value} into entry {entry}"),
         }
     }
 }
@@ -238,6 +245,11 @@ impl From<Step> for Fields {
                 ..of(13)
             },
             Step::FindInterval { entry } => Fields { entry, ..of(14) },
+            Step::Load { entry, value } => Fields {
+                entry,
+                value,
+                ..of(15)
+            },
         }
     }
 }
@@ -287,6 +299,10 @@ impl TryFrom<Fields> for Step {
                 Some(Step::RestartPlayer { player })
             }),
             14 => (0x05, |f| Some(Step::FindInterval { entry: f.entry })),
+            15 => (0x15, |f| {
+                let Fields { entry, value, .. } = f;
+                Some(Step::Load { entry, value })
+            }),
             _ => return Err(Refusal::UnknownKind),
         };
         if fields.kept(map) != fields {
@@ -302,7 +318,7 @@ mod tests {
     use std::string::ToString;
 
     /// A step of each kind, with its fields: kind, player, entry, high, value, serial.
-    fn samples() -> [(Step, [u32; 6]); 14] {
+    fn samples() -> [(Step, [u32; 6]); 15] {
         let player = Player::new(7).unwrap();
         let range = Range::new(40, 256).unwrap();
         [
@@ -327,6 +343,13 @@ mod tests {
             (Step::RestartTablet { entry: 45 }, [12, 0, 45, 0, 0, 0]),
             (Step::RestartPlayer { player }, [13, 7, 0, 0, 0, 0]),
             (Step::FindInterval { entry: 45 }, [14, 0, 45, 0, 0, 0]),
+            (
+                Step::Load {
+                    entry: 45,
+                    value: 99,
+                },
+                [15, 0, 45, 0, 99, 0],
+            ),
         ]
     }
 
@@ -407,7 +430,7 @@ mod tests {
             "player 7 reads entry 45",
             "player 7 writes 99 to entry 45",
             "request 11 arrives at the store",
-            "the answer to request 11 reaches its player",
+            "request 11 is answered",
             "request 11 is given up",
             "the given-up request 11 is lost",
             "a tablet is split at entry 45",
@@ -415,6 +438,7 @@ mod tests {
             "the tablet that holds entry 45 restarts",
             "player 7 restarts",
             "it is asked how far the guard of entry 45 reaches",
+            "the loader loads 99 into entry 45",
         ];
         assert_eq!(samples().map(|(step, _)| step.to_string()), texts);
         let range = Range::of_entry(45);

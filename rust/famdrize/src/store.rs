@@ -6,6 +6,13 @@ use crate::{raw, Range, Refusal, Serial};
 /// Words of the store's table.
 pub const STORE_WORDS: usize = 1280;
 
+/// The guard of an open entry, and what a load carries: a write that carries it commits there. An entry once guarded or [barred](BARRED) is
+/// never open again.
+pub const OPEN_GUARD: u32 = 0;
+
+/// The guard of a barred entry, in a tablet that restarted: no write commits there, whatever it carries, until a guard is set.
+pub const BARRED: u32 = 4_294_967_295;
+
 /// A store's table, lent by the caller, which keeps its rules: the store used alone, without heap. The same write handed in twice may commit
 /// twice.
 ///
@@ -43,7 +50,7 @@ pub struct Versioned {
 /// do not end it.
 ///
 /// ```
-/// use famdrize::{GuardOutcome, Range, Serial, StoreMut, STORE_WORDS};
+/// use famdrize::{GuardOutcome, Range, Serial, StoreMut, BARRED, OPEN_GUARD, STORE_WORDS};
 ///
 /// let mut words = [0; STORE_WORDS];
 /// let mut store = StoreMut::fresh(&mut words);
@@ -52,13 +59,16 @@ pub struct Versioned {
 /// let found = store.find_interval(45);
 /// assert_eq!((found.guard, found.first, found.last), (2, 40, 59));
 /// let found = store.find_interval(60);
-/// assert_eq!((found.guard, found.first, found.last), (0, 60, 255));
+/// assert_eq!((found.guard, found.first, found.last), (OPEN_GUARD, 60, 255));
+/// store.restart(45);
+/// let found = store.find_interval(45);
+/// assert_eq!((found.guard, found.first, found.last), (BARRED, 0, 255));
 /// # Ok::<(), famdrize::Refusal>(())
 /// ```
 #[derive(Clone, Copy, Debug, PartialEq, Eq, Hash)]
 #[non_exhaustive]
 pub struct Interval {
-    /// The guard, 0 for none.
+    /// The guard: a serial, [`OPEN_GUARD`] or [`BARRED`].
     pub guard: u32,
     /// The first entry.
     pub first: u8,
@@ -82,7 +92,7 @@ pub enum GuardOutcome {
 #[non_exhaustive]
 #[must_use = "the write may be turned back"]
 pub enum WriteOutcome {
-    /// It carries the entry's guard, which is not 0, and its serial and value become the entry's.
+    /// It carries the entry's guard, which is not [`BARRED`], and its serial and value become the entry's.
     Committed,
     /// It carries another guard, and is turned back.
     Rejected,
@@ -152,7 +162,7 @@ impl<'a> StoreMut<'a> {
         }
     }
 
-    /// A write that carries a guard, which may be any number; 0 is the guard of no write that commits.
+    /// A write that carries a guard, which may be any number; a load carries [`OPEN_GUARD`].
     pub fn write(&mut self, entry: u8, value: u32, serial: Serial, guard: u32) -> WriteOutcome {
         // SAFETY: an array with its length, lent to be changed.
         let reply = unsafe {
@@ -196,7 +206,7 @@ impl<'a> StoreMut<'a> {
         Refusal::of_code(reply.code)
     }
 
-    /// The guards of the tablet that holds the entry become 0.
+    /// The entries of the tablet that holds the entry are [`BARRED`].
     pub fn restart(&mut self, entry: u8) {
         // SAFETY: an array with its length, lent to be changed.
         let reply = unsafe {
@@ -280,7 +290,7 @@ mod tests {
         assert_eq!(store.write(45, 7, serial(3), 2), WriteOutcome::Committed);
         assert_eq!(store.write(45, 8, serial(4), 1), WriteOutcome::Rejected);
         assert_eq!(store.write(60, 8, serial(5), 2), WriteOutcome::Rejected);
-        assert_eq!(store.write(60, 8, serial(5), 0), WriteOutcome::Rejected);
+        assert_eq!(store.write(45, 8, serial(5), 0), WriteOutcome::Rejected);
         // it stays when it goes, and is taken up again
         let mut store = StoreMut::check(&mut words).unwrap();
         let told = |cell: Versioned| (cell.version, cell.value);
@@ -289,6 +299,40 @@ mod tests {
         store.restart(200);
         assert_eq!(store.write(45, 9, serial(6), 2), WriteOutcome::Rejected);
         assert_eq!(told(store.read(45)), (3, 7));
+    }
+
+    #[test]
+    fn open_and_barred_entries_of_a_lent_table() {
+        let mut words = [0; STORE_WORDS];
+        let mut store = StoreMut::fresh(&mut words);
+        assert_eq!(store.split(128), Ok(()));
+        assert_eq!(store.set_guard(range(40, 60), serial(2)), GuardOutcome::Set);
+        store.restart(200);
+        let (committed, rejected) = (WriteOutcome::Committed, WriteOutcome::Rejected);
+        for (entry, carried, outcome) in [
+            (39, OPEN_GUARD, committed),
+            (39, 2, rejected),
+            (39, BARRED, rejected),
+            (45, OPEN_GUARD, rejected),
+            (45, 2, committed),
+            (45, BARRED, rejected),
+            (127, OPEN_GUARD, committed),
+            (128, OPEN_GUARD, rejected),
+            (128, 2, rejected),
+            (128, BARRED, rejected),
+        ] {
+            let given = store.write(entry, 7, serial(3), carried);
+            assert_eq!(given, outcome, "{entry}, {carried}");
+        }
+        // barred stands in the column of guards, and in no other
+        assert_eq!(store.words()[512..517], [0, 2, 0, BARRED, 0]);
+        words[512 + 1] = BARRED;
+        assert!(StoreMut::check(&mut words).is_ok());
+        words[512 + 1] = BARRED - 1;
+        assert_eq!(StoreMut::check(&mut words), Err(Refusal::TableRules));
+        words[512 + 1] = 2;
+        words[768] = BARRED;
+        assert_eq!(StoreMut::check(&mut words), Err(Refusal::TableRules));
     }
 
     #[test]
@@ -322,10 +366,11 @@ mod tests {
             }
         }
         assert_eq!(*store.words, before);
-        // the guard of the second tablet becomes 0, up to the third
+        // the second tablet is barred, up to the third
         store.restart(50);
         assert_eq!(found(&store, 49), (2, 40, 49));
-        assert_eq!(found(&store, 50), (0, 50, 249));
+        assert_eq!(found(&store, 50), (BARRED, 50, 99));
+        assert_eq!(found(&store, 100), (OPEN_GUARD, 100, 249));
     }
 
     #[test]

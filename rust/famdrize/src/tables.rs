@@ -169,7 +169,7 @@ pub(crate) fn pending_in(players: &[u32; PLAYERS_WORDS], player: Player) -> u32 
 #[cfg(test)]
 mod tests {
     use super::*;
-    use crate::{Range, SessionMut, Why};
+    use crate::{Range, SessionMut, Why, BARRED, LOADER, OPEN_GUARD};
 
     /// Words of both tables that no call has made.
     fn lent() -> ([u32; STORE_WORDS], [u32; PLAYERS_WORDS]) {
@@ -247,6 +247,60 @@ mod tests {
         assert_eq!((store, players), (store_before, players_before));
         let mut tables = TablesMut::check(&mut store, &mut players).unwrap();
         assert_eq!(tables.step(assign(0, range)), issued(3));
+    }
+
+    #[test]
+    fn an_open_entry_is_loaded_and_a_barred_one_is_not() {
+        let (mut store, mut players) = lent();
+        let mut tables = TablesMut::fresh(&mut store, &mut players);
+        let load = |entry, value| Step::Load { entry, value };
+        let (deliver, respond) = (
+            |serial| Step::Deliver { serial },
+            |serial| Step::Respond { serial },
+        );
+        assert_eq!(tables.step(load(9, 5)), issued(1));
+        let sent = Request {
+            serial: 1,
+            player: LOADER,
+            kind: 5,
+            low: 9,
+            value: 5,
+            ..Request::default()
+        };
+        assert_eq!(tables.requests()[0], sent);
+        assert!(Player::all().all(|player| tables.pending(player) == 0));
+        assert_eq!(tables.step(deliver(1)), Reply::Done);
+        let committed = Reply::Committed {
+            serial: 1,
+            value: 5,
+        };
+        assert_eq!(tables.step(respond(1)), committed);
+        // entry 9 has version 1 and value 5, and is open still
+        let words = tables.store_words();
+        assert_eq!((words[768 + 9], words[1024 + 9]), (1, 5));
+        assert_eq!((words[256 + 1], words[512]), (0, OPEN_GUARD));
+        assert_eq!(tables.step(Step::Split { entry: 9 }), Reply::Done);
+        assert_eq!(tables.step(Step::RestartTablet { entry: 9 }), Reply::Done);
+        let words = tables.store_words();
+        assert_eq!((words[256 + 1], words[512 + 1]), (9, BARRED));
+        assert_eq!(tables.step(load(9, 6)), issued(2));
+        assert_eq!(tables.step(deliver(2)), Reply::Done);
+        assert_eq!(tables.step(respond(2)), Reply::Rejected { serial: 2 });
+        assert_eq!(tables.step(load(8, 7)), issued(3));
+        assert_eq!(tables.step(deliver(3)), Reply::Done);
+        assert_eq!(tables.step(Step::Abandon { serial: 3 }), Reply::Done);
+        let words = tables.store_words();
+        assert_eq!((words[768 + 8], words[1024 + 8]), (3, 7));
+        assert_eq!((words[768 + 9], words[1024 + 9]), (1, 5));
+        assert_eq!(tables.requests(), [Request::default(); REQUESTS]);
+        // the loader is no player
+        let restart = Fields {
+            kind: 13,
+            player: LOADER,
+            ..Fields::default()
+        };
+        let refused = Reply::Refused(Refusal::OutOfRange);
+        assert_eq!(tables.step_fields(restart), refused);
     }
 
     #[test]

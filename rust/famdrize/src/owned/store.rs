@@ -66,7 +66,7 @@ impl Store {
         self.lend().set_guard(range, serial)
     }
 
-    /// A write that carries a guard, which may be any number; 0 is the guard of no write that commits.
+    /// A write that carries a guard, which may be any number; a load carries [`OPEN_GUARD`](crate::OPEN_GUARD).
     pub fn write(&mut self, entry: u8, value: u32, serial: Serial, guard: u32) -> WriteOutcome {
         self.lend().write(entry, value, serial, guard)
     }
@@ -89,7 +89,7 @@ impl Store {
         self.lend().merge(entry)
     }
 
-    /// The guards of the tablet that holds the entry become 0.
+    /// The entries of the tablet that holds the entry are [`BARRED`](crate::BARRED).
     pub fn restart(&mut self, entry: u8) {
         self.lend().restart(entry);
     }
@@ -104,6 +104,7 @@ impl Default for Store {
 #[cfg(test)]
 mod tests {
     use super::*;
+    use crate::BARRED;
     use alloc::vec;
 
     fn serial(number: u32) -> Serial {
@@ -128,7 +129,7 @@ mod tests {
     #[test]
     fn a_write_commits_under_the_entrys_guard_alone() {
         let mut store = Store::fresh();
-        assert_eq!(store.write(45, 7, serial(1), 0), WriteOutcome::Rejected);
+        assert_eq!(store.write(45, 6, serial(1), 0), WriteOutcome::Committed);
         assert_eq!(
             store.set_guard(Range::new(40, 60).unwrap(), serial(2)),
             GuardOutcome::Set
@@ -136,6 +137,7 @@ mod tests {
         assert_eq!(store.write(45, 7, serial(3), 2), WriteOutcome::Committed);
         assert_eq!(store.write(45, 8, serial(4), 1), WriteOutcome::Rejected);
         assert_eq!(store.write(60, 8, serial(5), 2), WriteOutcome::Rejected);
+        assert_eq!(store.write(45, 8, serial(5), 0), WriteOutcome::Rejected);
         assert_eq!(
             store.read(45),
             Versioned {
@@ -151,7 +153,9 @@ mod tests {
             }
         );
         store.restart(45);
-        assert_eq!(store.write(45, 9, serial(6), 2), WriteOutcome::Rejected);
+        for guard in [0, 2, BARRED] {
+            assert_eq!(store.write(45, 9, serial(6), guard), WriteOutcome::Rejected);
+        }
     }
 
     #[test]
@@ -172,7 +176,7 @@ mod tests {
         assert_eq!(store.find_interval(45), interval(2, 40, 59));
         store.restart(55);
         assert_eq!(store.find_interval(45), interval(2, 40, 49));
-        assert_eq!(store.find_interval(55), interval(0, 50, 255));
+        assert_eq!(store.find_interval(55), interval(BARRED, 50, 255));
     }
 
     #[test]

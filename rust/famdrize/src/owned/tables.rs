@@ -362,7 +362,7 @@ mod tests {
     }
 
     /// What a player does on tables whose last serial is `last`: from fresh ones it gets every reply.
-    fn script(player: Player, last: u32) -> [Step; 26] {
+    fn script(player: Player, last: u32) -> [Step; 29] {
         let (entry, range) = (40, Range::new(40, 44).unwrap());
         let ask = Step::RequestGuard { player, range };
         let read = Step::Read { player, entry };
@@ -405,6 +405,9 @@ mod tests {
             deliver(7),
             Step::Release { range },
             respond(7),
+            Step::Load { entry, value },
+            deliver(9),
+            respond(9),
         ]
     }
 
@@ -414,7 +417,7 @@ mod tests {
         let steps = script(Player::new(0).unwrap(), 0);
         let codes = steps.map(|step| tables.step(step).numbers()[0]);
         let expected = [
-            0, 1, 1, 0, 6, 9, 1, 0, 3, 2, 1, 0, 4, 0, 1, 0, 5, 0, 1, 0, 8, 0, 1, 0, 1, 7,
+            0, 1, 1, 0, 6, 9, 1, 0, 3, 2, 1, 0, 4, 0, 1, 0, 5, 0, 1, 0, 8, 0, 1, 0, 1, 7, 1, 0, 5,
         ];
         assert_eq!(codes, expected);
     }
@@ -426,7 +429,7 @@ mod tests {
             u8::try_from((*seed >> 33) % u64::from(limit)).unwrap()
         };
         let none = Fields {
-            kind: below(16),
+            kind: below(17),
             ..Fields::default()
         };
         let entry = 40 + below(4);
@@ -458,6 +461,11 @@ mod tests {
                 ..none
             },
             6..=9 => Fields { serial, ..none },
+            15 => Fields {
+                entry,
+                value,
+                ..none
+            },
             10..=12 | 14 => Fields { entry, ..none },
             // with a field that it lacks, now and then
             13 => Fields {
