@@ -186,15 +186,26 @@ fn joined(parts: &[&[Step]]) -> Vec<Step> {
     parts.concat()
 }
 
+/// The steps by which a player that owns all entries, by serial 1, gets 64 guards, by serials 2 to 65.
+fn granted(owned: &[Step], asks: &[Step]) -> Vec<Step> {
+    let mut steps = owned.to_vec();
+    for (serial, &step) in (2..).zip(asks) {
+        steps.extend([step, deliver(serial), respond(serial)]);
+    }
+    steps
+}
+
 /// Every kind, most with 64 requests in flight at the start or the end.
 pub fn kinds() -> Vec<Work> {
     let owned = [assign(0, 0, 256)];
     let asks = each_fourth(|entry| ask(entry, u16::from(entry) + 4));
-    // 64 guard intervals, each with its own guard; serials 2 to 65.
-    let mut guarded = owned.to_vec();
-    for (serial, &step) in (2..).zip(&asks) {
-        guarded.extend([step, deliver(serial), respond(serial)]);
-    }
+    // 64 guard intervals, each with its own guard.
+    let guarded = granted(&owned, &asks);
+    // As many, each behind an open one.
+    let between = granted(
+        &owned,
+        &each_fourth(|entry| ask(entry + 2, u16::from(entry) + 4)),
+    );
     let reads = each_fourth(|entry| Step::Read { player: 0, entry });
     let writes = each_fourth(|entry| Step::Write {
         player: 0,
@@ -202,6 +213,7 @@ pub fn kinds() -> Vec<Work> {
         value: 7,
     });
     let finds = each_fourth(|entry| Step::FindInterval { entry });
+    let loads = each_fourth(|entry| Step::Load { entry, value: 7 });
     let restarted: Vec<Step> = vec![Step::RestartTablet { entry: 0 }];
     let memory = joined(&[&guarded, &reads[..1], &[deliver(66), respond(66)]]);
     let splits: Vec<Step> = (1..=255).map(|entry| Step::Split { entry }).collect();
@@ -231,6 +243,7 @@ pub fn kinds() -> Vec<Work> {
         Work::kind("6 arrive, guard request", &after_asks, &serials(2, deliver)),
         Work::kind("6 arrive, read", &after_reads, &delivered),
         Work::kind("6 arrive, write", &after_writes, &delivered),
+        Work::kind("6 arrive, load", &joined(&[&between, &loads]), &delivered),
         Work::kind(
             "7 answer, guard granted",
             &joined(&[&after_asks, &serials(2, deliver)]),
@@ -267,6 +280,7 @@ pub fn kinds() -> Vec<Work> {
             &vec![Step::RestartPlayer { player: 1 }; 1_000],
         ),
         Work::kind("14 how far a guard reaches", &guarded, &finds.repeat(16)),
+        Work::kind("15 load", &guarded, &loads),
     ]
 }
 
