@@ -187,7 +187,7 @@ impl OnLoad {
     }
 }
 
-/// What stands beside a load that is sent.
+/// What a load that is sent meets.
 fn sending(state: &State, on: u8) -> Vec<OnLoad> {
     let beside = |request: &Request| match request.operation {
         Operation::Read { entry, .. } if entry == on => Some(OnLoad::SentBesideRead),
@@ -197,9 +197,17 @@ fn sending(state: &State, on: u8) -> Vec<OnLoad> {
         Operation::Write { entry, .. } if entry == on => Some(OnLoad::SentBesideWrite),
         _ => None,
     };
-    let pending = state.requests.iter().filter(|r| r.is_pending());
-    let mut found: Vec<OnLoad> = pending.filter_map(beside).collect();
-    found.push(OnLoad::SentAt(Guard::of_entry(&state.store, on)));
+    let pending = || state.requests.iter().filter(|r| r.is_pending());
+    let mut found = vec![OnLoad::SentAt(Guard::of_entry(&state.store, on))];
+    for one in [
+        OnLoad::SentBesideRead,
+        OnLoad::SentBesideWrite,
+        OnLoad::SentBesideLoad,
+    ] {
+        if pending().any(|request| beside(request) == Some(one)) {
+            found.push(one);
+        }
+    }
     found
 }
 
