@@ -182,7 +182,7 @@ fn break_by(rng: &mut Prng, rule: TableRule, above: impl Fn(u32) -> u32) -> (Vec
         TableRule::IntervalUnused => {
             let place = rng.between(INTERVALS as u32 + 1, 255) as usize;
             let column = [INTERVAL_STARTS, INTERVAL_GUARDS][rng.index(2)];
-            store[column + place] = rng.between(1, 255);
+            store[column + place] = [rng.between(1, 255), BARRED][rng.index(2)];
         }
         TableRule::GuardSerial => store[INTERVAL_GUARDS + rng.index(INTERVALS)] = too_high,
         TableRule::VersionSerial => store[VERSIONS + any_entry] = too_high,
