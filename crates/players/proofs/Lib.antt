@@ -9,5 +9,6 @@ pub mod StepCases
 pub mod KindLaws
 pub mod CallLaws
 pub mod IntervalLaws
+pub mod LoadLaws
 pub mod Refusals
 pub mod PlayedLaws
