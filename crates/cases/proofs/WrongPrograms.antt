@@ -5,16 +5,17 @@
 use mathlib.Core.Path.{_≡_, ap, refl, sym, _∙_}
 use mathlib.Core.Bool.{Bool, true, false, cond, _&&_}
 use mathlib.Core.List.{List, [], _∷_, _++_, map}
-use Prim.Native.Nat.{ℕ, zero, suc, _+_, _-_, _/_, _^_, _<_, _≤_}
+use Prim.Native.Nat.{ℕ, zero, suc, _+_, _-_, _*_, _/_, _^_, _<_, _≤_}
 use native.Mathlib.Omega.{arith}
 use lib.Dec.{T, ltb, eqb}
 use lib.ListN.{length, getD, drop}
-use Rattle.store.specs.Model.{serials, unbroken, tablet-first, tablet-end, interval-first, interval-last}
+use Rattle.store.specs.Model.{serials, open-guard, barred, unbroken, tablet-first, tablet-end, interval-first, interval-last}
 use Rattle.store.specs.Table.{part as part-of, seek, guardAt, storeOf, coded, laid, listed, tableOf as store-table, at-most, guard-holds, rising, intervals, boundaries, valid as valid-store}
 use Rattle.store.specs.declared.Reply.{Reply}
+use Rattle.requests.specs.Model.{loader}
 use Rattle.requests.specs.Region.{requestOf, requestsFrom, requestsOf, placed, fields-hold, outcome-holds, request-holds, words-fit, places-hold, valid as valid-requests}
 use Rattle.players.specs.declared.Step.{Step}
-use Rattle.players.specs.declared.Step.the-variants.{Assign, RequestGuard, Read, Deliver, Respond, Split, FindInterval}
+use Rattle.players.specs.declared.Step.the-variants.{Assign, RequestGuard, Read, Deliver, Respond, Split, RestartTablet, FindInterval, Load}
 use Rattle.players.specs.Rules.{State, step, fresh}
 use Rattle.players.specs.Replies.{done}
 use Rattle.players.specs.Regions.{region}
@@ -270,6 +271,98 @@ module _ (f : Program) (k : Keeps f) where
   interval-alters e st t h alters =
       let same = k (FindInterval e) st t h ∙ interval-taken st t e in
       alters (ap (λ (d : Done). d .store) same, ap (λ (d : Done). d .players) same)
+
+-- ---- document 02 §2: wrong readings of loads and restarts
+
+-- guard 2 is granted to player 0 over 0 to 9; its read 3 of entry 1 waits, and load 4 of that entry
+abbrev load-waits : List Step
+load-waits = asked ++ (Deliver 2 ∷ Respond 2 ∷ Read 0 1 ∷ Load 1 6 ∷ [])
+
+-- the load has arrived at the store, and is turned back
+abbrev load-arrived : List Step
+load-arrived = load-waits ++ (Deliver 4 ∷ [])
+
+load-words : Words (store-after load-waits) × Words (players-after load-waits) × Words (store-after load-arrived) × Words (players-after load-arrived)
+unfolding unbroken tablet-first tablet-end seek guardAt requestOf requestsFrom requestsOf fields-hold outcome-holds request-holds words-fit cell region at-most cached-holds cached-all placed places-hold valid-requests boundaries intervals rising guard-holds coded laid valid valid-players valid-store stateOf storeOf part-of store-table tableOf listed state-after
+load-words = (tt, tt, tt, tt)
+
+load-fits : T (step-fits (Load 1 7)) × T (step-fits (Respond 4)) × T (step-fits (RestartTablet 1))
+unfolding map-of
+load-fits = (tt, tt, tt)
+
+-- the j-th word of the request in place i
+abbrev request-word : List ℕ → ℕ → ℕ → ℕ
+request-word t i j = getD t (8705 + i * 12 + j) 0
+
+-- the guard that player p has for entry e
+abbrev held-word : List ℕ → ℕ → ℕ → ℕ
+held-word t p e = getD t (513 + p * 256 + e) 0
+
+-- a reply's code and first number; the mark of the first request, the serial and mark of the third; player 0's guard for entry 1, and the store's
+abbrev load-seen : Done → List ℕ
+load-seen d = d .reply .code ∷ d .reply .a ∷ request-word (d .players) 0 7 ∷ request-word (d .players) 2 0 ∷ request-word (d .players) 2 7 ∷ held-word (d .players) 0 1 ∷ storeOf (d .store) .guard 1 ∷ []
+
+-- another load, the answer to load 4, a restart; then kind, entry and whether it is given up of read 3, and serial, player and entry of load 4
+load-rows :
+    map load-seen
+    (taken (Load 1 7) (store-after load-waits) (players-after load-waits)
+    ∷ taken (Respond 4) (store-after load-arrived) (players-after load-arrived)
+    ∷ taken (RestartTablet 1) (store-after load-waits) (players-after load-waits)
+    ∷ [])
+    ++ (map (request-word (players-after load-waits) 0) (2 ∷ 3 ∷ 9 ∷ []) ∷ map (request-word (players-after load-arrived) 1) (0 ∷ 1 ∷ 3 ∷ []) ∷ [])
+    ≡ (1 ∷ 5 ∷ 0 ∷ 5 ∷ 0 ∷ 2 ∷ 2 ∷ []) ∷ (5 ∷ 4 ∷ 0 ∷ 0 ∷ 0 ∷ 2 ∷ 2 ∷ []) ∷ (0 ∷ 0 ∷ 0 ∷ 0 ∷ 0 ∷ 2 ∷ barred ∷ []) ∷ (4 ∷ 1 ∷ 0 ∷ []) ∷ (4 ∷ 8 ∷ 1 ∷ []) ∷ []
+unfolding unbroken tablet-first tablet-end seek guardAt requestOf requestsFrom requestsOf fields-hold outcome-holds request-holds words-fit cell region at-most cached-holds cached-all placed places-hold valid-requests boundaries intervals rising guard-holds coded laid valid valid-players valid-store stateOf storeOf part-of store-table tableOf listed state-after
+load-rows = refl
+
+module _ (f : Program) (k : Keeps f) where
+  abbrev waits-store : List ℕ
+  waits-store = store-after load-waits
+
+  abbrev waits-players : List ℕ
+  waits-players = players-after load-waits
+
+  loaded : f (Load 1 7) waits-store waits-players ≡ taken (Load 1 7) waits-store waits-players
+  loaded = k (Load 1 7) waits-store waits-players (load-fits .0, load-words .0, load-words .1)
+
+  -- a load that marks the waiting reads on its entry
+  pub load-marks :
+      ((e v i : ℕ) (st t : List ℕ) → Handed (Load e v) st t → f (Load e v) st t .reply .code ≡ 1 → request-word t i 2 ≡ 4 → request-word t i 3 ≡ e → request-word t i 9 ≡ 0
+      → request-word (f (Load e v) st t .players) i 7 ≡ 1) → ⊥
+  load-marks fault =
+      let one = ap (λ (d : Done). d .reply .code) loaded ∙ at 0 0 load-rows in
+      let marked = fault 1 7 0 waits-store waits-players (load-fits .0, load-words .0, load-words .1) one (at 3 0 load-rows) (at 3 1 load-rows) (at 3 2 load-rows) in
+      omega (arith, marked, ap (λ (d : Done). request-word (d .players) 0 7) loaded, at 0 2 load-rows)
+
+  -- one that is overlapped where another request on its entry waits
+  pub load-overlapped :
+      ((e v i j : ℕ) (st t : List ℕ) → Handed (Load e v) st t → request-word t i 3 ≡ e → request-word t i 9 ≡ 0 → request-word (f (Load e v) st t .players) j 0 ≡ f (Load e v) st t .reply .a
+      → request-word (f (Load e v) st t .players) j 7 ≡ 1) → ⊥
+  load-overlapped fault =
+      let own = ap (λ (d : Done). request-word (d .players) 2 0) loaded ∙ at 0 3 load-rows in
+      let serial = ap (λ (d : Done). d .reply .a) loaded ∙ at 0 1 load-rows in
+      let marked = fault 1 7 0 2 waits-store waits-players (load-fits .0, load-words .0, load-words .1) (at 3 1 load-rows) (at 3 2 load-rows) (own ∙ sym serial) in
+      omega (arith, marked, ap (λ (d : Done). request-word (d .players) 2 7) loaded, at 0 4 load-rows)
+
+  -- an answer 5 to a load that clears the guard which a player has for its entry
+  pub load-clears :
+      ((n i p e : ℕ) (st t : List ℕ) → Handed (Respond n) st t → f (Respond n) st t .reply .code ≡ 5 → request-word t i 0 ≡ n → request-word t i 1 ≡ loader → request-word t i 3 ≡ e → p < 8
+      → held-word (f (Respond n) st t .players) p e ≡ 0) → ⊥
+  load-clears fault =
+      let st = store-after load-arrived in
+      let t = players-after load-arrived in
+      let h : Handed (Respond 4) st t = (load-fits .1, load-words .2, load-words .3) in
+      let answered = k (Respond 4) st t h in
+      let five = ap (λ (d : Done). d .reply .code) answered ∙ at 1 0 load-rows in
+      let cleared = fault 4 1 0 1 st t h five (at 4 0 load-rows) (at 4 1 load-rows) (at 4 2 load-rows) (omega arith) in
+      omega (arith, cleared, ap (λ (d : Done). held-word (d .players) 0 1) answered, at 1 5 load-rows)
+
+  -- a tablet restart that leaves its entry open
+  pub restart-opens : ((e : ℕ) (st t : List ℕ) → Handed (RestartTablet e) st t → f (RestartTablet e) st t .reply .code ≡ 0 → storeOf (f (RestartTablet e) st t .store) .guard e ≡ open-guard) → ⊥
+  restart-opens fault =
+      let h : Handed (RestartTablet 1) waits-store waits-players = (load-fits .2, load-words .0, load-words .1) in
+      let restarted = k (RestartTablet 1) waits-store waits-players h in
+      let opened = fault 1 waits-store waits-players h (ap (λ (d : Done). d .reply .code) restarted ∙ at 2 0 load-rows) in
+      omega (arith, opened, ap (λ (d : Done). storeOf (d .store) .guard 1) restarted, at 2 6 load-rows)
 
 -- ---- a run
 
