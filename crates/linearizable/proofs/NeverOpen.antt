@@ -4,10 +4,10 @@ use mathlib.Core.Path.{_≡_, sym, ap, _∙_, subst}
 use mathlib.Core.Bool.{true, true≢false, cond}
 use mathlib.Core.List.{List, [], _∷_}
 use mathlib.Core.Logic.{_≢_, inl, inr}
-use Prim.Native.Nat.{ℕ, _<_}
+use Prim.Native.Nat.{ℕ}
 use native.Mathlib.Omega.{arith}
 use lib.ListN.{length}
-use Rattle.store.specs.Model.{Store, barred, entries, guarded, open-guard, within}
+use Rattle.store.specs.Model.{Store, barred, guarded, open-guard, within}
 use Rattle.store.proofs.GuardChanges.{set-inside, restart-inside}
 use Rattle.players.specs.Rules.{State}
 use Rattle.linearizable.specs.Ledger.{Event, Ledger, Note, no-note, note-guard-request, note-read, note-write, ledger, sets, set-store, take-up, Seen, unseen, asks, reads, writes, loads, recalls, arrives, answers, grants, gives-up, restarts, bounds, bars, seen, entered}
@@ -18,11 +18,11 @@ use Rattle.linearizable.proofs.Simulation.{Move, Sim, Spent}
 
 -- what is guarded or restarted in h, or was not open at some step of it, is not open at its end
 pub record NeverOpen (h : List Event) : Type 0 where
-  pub again : (e : ℕ) (at : Event) (before : List Event) → e < entries → Stands at before h → closes (ledger before) e (at .taken) (at .reply) ≡ true → ledger h .store .guard e ≢ open-guard
+  pub again : (e : ℕ) (at : Event) (before : List Event) → Stands at before h → closes (ledger before) e (at .taken) (at .reply) ≡ true → ledger h .store .guard e ≢ open-guard
   pub stays : (e : ℕ) (at : Event) (before : List Event) → Stands at before h → ledger before .store .guard e ≢ open-guard → ledger h .store .guard e ≢ open-guard
 
 pub closed-nothing : NeverOpen []
-closed-nothing = record { again = λ e at before lt st. absurd (stands-nil st); stays = λ e at before st. absurd (stands-nil st) }
+closed-nothing = record { again = λ e at before st. absurd (stands-nil st); stays = λ e at before st. absurd (stands-nil st) }
 
 -- a guard that is set is not open, as nothing is noted under 0
 set-closed : (t : ℕ) (l : Ledger) (e n : ℕ) (w : Note) → n ≢ 0 → sets-over l e w ≡ true → take-up t l n w .store .guard e ≢ open-guard
@@ -62,9 +62,9 @@ module _ {h : List Event} {s : State} {ev : Event} {s′ : State} (sim : Sim h s
   pub closed-step : NeverOpen (ev ∷ h)
   closed-step =
       record {
-        again = λ e at before lt st c. elim (stands-cons st) [
+        again = λ e at before st c. elim (stands-cons st) [
           | inl q ↦ closed-now (length h) (ledger h) e (seen (ev .taken) (ev .reply)) (sim .unnoted) (ap (λ z. closes (ledger z) e (ev .taken) (ev .reply)) (sym (q .1)) ∙ (ap (λ (z : Event). closes (ledger before) e (z .taken) (z .reply)) (sym (q .0)) ∙ c))
-          | inr k ↦ stays-closed e (closed .again e at before lt k c)
+          | inr k ↦ stays-closed e (closed .again e at before k c)
         ];
         stays = λ e at before st c. elim (stands-cons st) [ inl q ↦ stays-closed e (λ z. c (ap (λ y. ledger y .store .guard e) (q .1) ∙ z)) | inr k ↦ stays-closed e (closed .stays e at before k c) ];
       }

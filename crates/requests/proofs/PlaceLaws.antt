@@ -13,6 +13,7 @@ use mir.Syntax.{w64}
 use mir.Val.{Fits}
 use borrow.Author.Tests.{eq-eqb, ne-eqb, le-leb, lt-leb, lt-ltb, le-ltb}
 use Rattle.store.specs.Table.{at-most}
+use Rattle.requests.specs.Model.{loader}
 use Rattle.requests.specs.Region.{requestOf, requestAt, request-holds, words-fit, places-hold, valid}
 
 -- ---- where a word lies
@@ -64,40 +65,40 @@ module _ (w : List ℕ) (k : ℕ) where
   at : (i : ℕ) → getD (drop (k * 12) w) i 0 ≡ word i
   at i = getD-drop (k * 12) w i 0
 
-  pub unfit-player : 8 < word 1 → false ≡ fit
+  pub unfit-player : loader < word 1 → false ≡ fit
   unfolding words-fit
-  unfit-player h = rw (at 1, lt-leb (word 1) 8 h)
+  unfit-player h = rw (at 1, lt-leb (word 1) loader h)
 
-  module _ (h₁ : word 1 ≤ 8) where
+  module _ (h₁ : word 1 ≤ loader) where
     pub unfit-kind : 255 < word 2 → false ≡ fit
     unfolding words-fit
-    unfit-kind h = rw (at 1, at 2, le-leb (word 1) 8 h₁, lt-leb (word 2) 255 h)
+    unfit-kind h = rw (at 1, at 2, le-leb (word 1) loader h₁, lt-leb (word 2) 255 h)
 
     module _ (h₂ : word 2 ≤ 255) where
       pub unfit-low : 255 < word 3 → false ≡ fit
       unfolding words-fit
-      unfit-low h = rw (at 1, at 2, at 3, le-leb (word 1) 8 h₁, le-leb (word 2) 255 h₂, lt-leb (word 3) 255 h)
+      unfit-low h = rw (at 1, at 2, at 3, le-leb (word 1) loader h₁, le-leb (word 2) 255 h₂, lt-leb (word 3) 255 h)
 
       module _ (h₃ : word 3 ≤ 255) where
         pub unfit-high : 65535 < word 4 → false ≡ fit
         unfolding words-fit
-        unfit-high h = rw (at 1, at 2, at 3, at 4, le-leb (word 1) 8 h₁, le-leb (word 2) 255 h₂, le-leb (word 3) 255 h₃, lt-leb (word 4) 65535 h)
+        unfit-high h = rw (at 1, at 2, at 3, at 4, le-leb (word 1) loader h₁, le-leb (word 2) 255 h₂, le-leb (word 3) 255 h₃, lt-leb (word 4) 65535 h)
 
         module _ (h₄ : word 4 ≤ 65535) where
           pub unfit-overlapped : 1 < word 7 → false ≡ fit
           unfolding words-fit
-          unfit-overlapped h = rw (at 1, at 2, at 3, at 4, at 7, le-leb (word 1) 8 h₁, le-leb (word 2) 255 h₂, le-leb (word 3) 255 h₃, le-leb (word 4) 65535 h₄, lt-leb (word 7) 1 h)
+          unfit-overlapped h = rw (at 1, at 2, at 3, at 4, at 7, le-leb (word 1) loader h₁, le-leb (word 2) 255 h₂, le-leb (word 3) 255 h₃, le-leb (word 4) 65535 h₄, lt-leb (word 7) 1 h)
 
           module _ (h₇ : word 7 ≤ 1) where
             pub unfit-delivered : 1 < word 8 → false ≡ fit
             unfolding words-fit
             unfit-delivered h =
-                rw (at 1, at 2, at 3, at 4, at 7, at 8, le-leb (word 1) 8 h₁, le-leb (word 2) 255 h₂, le-leb (word 3) 255 h₃, le-leb (word 4) 65535 h₄, le-leb (word 7) 1 h₇, lt-leb (word 8) 1 h)
+                rw (at 1, at 2, at 3, at 4, at 7, at 8, le-leb (word 1) loader h₁, le-leb (word 2) 255 h₂, le-leb (word 3) 255 h₃, le-leb (word 4) 65535 h₄, le-leb (word 7) 1 h₇, lt-leb (word 8) 1 h)
 
             pub fit-abandoned : word 8 ≤ 1 → leb (word 9) 1 ≡ fit
             unfolding words-fit
             fit-abandoned h₈ =
-                rw (at 1, at 2, at 3, at 4, at 7, at 8, at 9, le-leb (word 1) 8 h₁, le-leb (word 2) 255 h₂, le-leb (word 3) 255 h₃, le-leb (word 4) 65535 h₄, le-leb (word 7) 1 h₇, le-leb (word 8) 1 h₈)
+                rw (at 1, at 2, at 3, at 4, at 7, at 8, at 9, le-leb (word 1) loader h₁, le-leb (word 2) 255 h₂, le-leb (word 3) 255 h₃, le-leb (word 4) 65535 h₄, le-leb (word 7) 1 h₇, le-leb (word 8) 1 h₈)
 
 -- ---- the walk
 

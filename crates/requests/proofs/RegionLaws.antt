@@ -16,9 +16,9 @@ use Rattle.requests.specs.declared.Fit.{Fit}
 use Rattle.requests.specs.declared.Look.{Look}
 use Rattle.requests.specs.declared.Found.the-variants.{At, Nowhere}
 use Rattle.requests.specs.Model.{places, serial-is, by, fits, named, any, keep, find, drop-request, change-request, mark-overlapped, mark-abandoned, mark-delivered}
-use Rattle.requests.specs.Region.{requestOf, requestsFrom, whole, requestsOf, wordsOf, placed, regionOf}
+use Rattle.requests.specs.Region.{wordsOf, placed, regionOf}
 use Rattle.requests.specs.Calls.{found-from, found, scanned, full, over, with-request, with-abandoned, with-delivered, closed, without, overlapped-from, sought, crossed, pass, passed, remains, give-up, remaining, restarted}
-use Rattle.requests.proofs.Basics.{decide, cond-elim}
+use Rattle.requests.proofs.Basics.{decide}
 use Rattle.requests.proofs.Rising.{Each, In, here, there, fewer-kept}
 use Rattle.requests.proofs.RequestRules.{request-fits}
 use Rattle.requests.proofs.WordLaws.{over-skip, over-front, drop-zeros, set-from, sets-from}

@@ -7,6 +7,7 @@ use native.Mathlib.Omega.{arith}
 use lib.Dec.{leb, eqb}
 use borrow.Author.Tests.{eq-eqb, ne-eqb, le-leb, lt-leb, lt-ltb, le-ltb}
 use Rattle.requests.specs.declared.Request.{Request}
+use Rattle.requests.specs.Model.{loader}
 use Rattle.requests.specs.Region.{guard-request-holds, read-holds, write-holds, load-holds, fields-hold, outcome-holds, request-holds}
 
 module _ (r : Request) where
@@ -53,32 +54,32 @@ module _ (r : Request) where
     plain-load h o = rw (lt-ltb (r .low) 256 l, eq-eqb (r .high) 0 h, o)
 
   -- the loader's, and a player's by its kind
-  module _ (y : r .player ≡ 8) where
+  module _ (y : r .player ≡ loader) where
     pub load-other : (r .kind ≡ 5 → ⊥) → false ≡ fields-hold r
     unfolding fields-hold
-    load-other k = rw (eq-eqb (r .player) 8 y, ne-eqb (r .kind) 5 k)
+    load-other k = rw (eq-eqb (r .player) loader y, ne-eqb (r .kind) 5 k)
 
     pub load-5 : (b : Bool) → r .kind ≡ 5 → b ≡ load-holds r → b ≡ fields-hold r
     unfolding fields-hold
-    load-5 b k e = rw (eq-eqb (r .player) 8 y, eq-eqb (r .kind) 5 k) e
+    load-5 b k e = rw (eq-eqb (r .player) loader y, eq-eqb (r .kind) 5 k) e
 
-  module _ (y : r .player ≡ 8 → ⊥) where
+  module _ (y : r .player ≡ loader → ⊥) where
     module _ (b : Bool) where
       pub kind-3 : r .kind ≡ 3 → b ≡ guard-request-holds r → b ≡ fields-hold r
       unfolding fields-hold
-      kind-3 k e = rw (ne-eqb (r .player) 8 y, eq-eqb (r .kind) 3 k) e
+      kind-3 k e = rw (ne-eqb (r .player) loader y, eq-eqb (r .kind) 3 k) e
 
       pub kind-4 : r .kind ≡ 4 → b ≡ read-holds r → b ≡ fields-hold r
       unfolding fields-hold
-      kind-4 k e = rw (ne-eqb (r .player) 8 y, ne-eqb (r .kind) 3 (λ z. omega arith), eq-eqb (r .kind) 4 k) e
+      kind-4 k e = rw (ne-eqb (r .player) loader y, ne-eqb (r .kind) 3 (λ z. omega arith), eq-eqb (r .kind) 4 k) e
 
       pub kind-5 : r .kind ≡ 5 → b ≡ write-holds r → b ≡ fields-hold r
       unfolding fields-hold
-      kind-5 k e = rw (ne-eqb (r .player) 8 y, ne-eqb (r .kind) 3 (λ z. omega arith), ne-eqb (r .kind) 4 (λ z. omega arith), eq-eqb (r .kind) 5 k) e
+      kind-5 k e = rw (ne-eqb (r .player) loader y, ne-eqb (r .kind) 3 (λ z. omega arith), ne-eqb (r .kind) 4 (λ z. omega arith), eq-eqb (r .kind) 5 k) e
 
     pub kind-other : (r .kind ≡ 3 → ⊥) → (r .kind ≡ 4 → ⊥) → (r .kind ≡ 5 → ⊥) → false ≡ fields-hold r
     unfolding fields-hold
-    kind-other h k m = rw (ne-eqb (r .player) 8 y, ne-eqb (r .kind) 3 h, ne-eqb (r .kind) 4 k, ne-eqb (r .kind) 5 m)
+    kind-other h k m = rw (ne-eqb (r .player) loader y, ne-eqb (r .kind) 3 h, ne-eqb (r .kind) 4 k, ne-eqb (r .kind) 5 m)
 
   module _ (n : ℕ) where
     -- ---- the outcome
@@ -123,20 +124,20 @@ module _ (r : Request) where
     high-serial h = rw (lt-leb (r .serial) n h)
 
     module _ (s : r .serial ≤ n) where
-      pub high-player : 8 < r .player → false ≡ request-holds n r
+      pub high-player : loader < r .player → false ≡ request-holds n r
       unfolding request-holds
-      high-player h = rw (le-leb (r .serial) n s, lt-leb (r .player) 8 h)
+      high-player h = rw (le-leb (r .serial) n s, lt-leb (r .player) loader h)
 
-      module _ (p : r .player ≤ 8) where
+      module _ (p : r .player ≤ loader) where
         pub late-guard : r .serial ≤ r .guard → false ≡ request-holds n r
         unfolding request-holds
-        late-guard h = rw (le-leb (r .serial) n s, le-leb (r .player) 8 p, le-ltb (r .guard) (r .serial) h)
+        late-guard h = rw (le-leb (r .serial) n s, le-leb (r .player) loader p, le-ltb (r .guard) (r .serial) h)
 
         module _ (g : r .guard < r .serial) where
           pub bad-fields : fields-hold r ≡ false → false ≡ request-holds n r
           unfolding request-holds
-          bad-fields f = rw (le-leb (r .serial) n s, le-leb (r .player) 8 p, lt-ltb (r .guard) (r .serial) g, f)
+          bad-fields f = rw (le-leb (r .serial) n s, le-leb (r .player) loader p, lt-ltb (r .guard) (r .serial) g, f)
 
           pub good-fields : (b : Bool) → fields-hold r ≡ true → b ≡ outcome-holds n r → b ≡ request-holds n r
           unfolding request-holds
-          good-fields b f e = rw (le-leb (r .serial) n s, le-leb (r .player) 8 p, lt-ltb (r .guard) (r .serial) g, f) e
+          good-fields b f e = rw (le-leb (r .serial) n s, le-leb (r .player) loader p, lt-ltb (r .guard) (r .serial) g, f) e

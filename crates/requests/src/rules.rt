@@ -38,7 +38,7 @@ fn read_holds(r: Request) -> bool
     r.value == 0
 }
 
-// Whether the fields of a write keep the rules.
+// Whether the fields of a player's write keep the rules.
 fn write_holds(r: Request) -> bool
     ensures { λ b. ⌜ b ≡ write-holds r ⌝ }
 {
@@ -58,7 +58,7 @@ fn load_holds(r: Request) -> bool
     if r.overlapped {
         return false;
     }
-    r.guard == 0
+    r.guard == store::layout::OPEN
 }
 
 // Whether the fields that a request's kind has, and those that it lacks, keep the rules. The loader's is a write.

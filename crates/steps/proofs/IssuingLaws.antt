@@ -14,12 +14,13 @@ use mir.Val.{Fits}
 use borrow.Author.Needs.{fits-under}
 use borrow.Author.Tests.{eq-eqb, ne-eqb, le-leb, lt-leb, lt-ltb, le-ltb, leb-false}
 use borrow.Rule.Slice.PartMut.{putMid}
+use Rattle.store.specs.Model.{open-guard}
 use Rattle.store.specs.declared.Range.{Range}
 use Rattle.store.specs.declared.Reply.{Reply}
 use Rattle.requests.specs.declared.Request.{Request}
 use Rattle.requests.specs.declared.Look.the-variants.{Requesting, Writing, Crossing}
 use Rattle.requests.specs.declared.Scan.{Scan}
-use Rattle.requests.specs.Model.{places, requesting, writing, using-entry, new-request, mark-overlapped, any}
+use Rattle.requests.specs.Model.{places, loader, requesting, writing, using-entry, new-request, mark-overlapped, any}
 use Rattle.requests.specs.Region.{regionOf}
 use Rattle.requests.specs.Calls.{full, Pass, pass, passed}
 use Rattle.requests.proofs.Basics.{decide}
@@ -195,20 +196,20 @@ module _ (t : List ℕ) (l : length t ≡ players-words) (e v : ℕ) where
     pub load-spent : 4000000 ≤ getD t 0 0 → (r : Reply) → r ≡ refusal 34 → Moves d t r t
     load-spent k r er = refused d t l 34 r er (λ s o y. rw (full-is o y false h, spent-is o y k))
 
-    pub load-done : getD t 0 0 < 4000000 → (x : Scan) (c : List ℕ) → pass x c ≡ passed (Writing 8 e) (take 768 (drop 8705 t)) → (q : Request) → q ≡ new-request (getD t 0 0 + 1) 8 5 e 0 v 0 false → (t′ : List ℕ) → t′ ≡ added (x .used) q (putMid 8705 768 t c)
+    pub load-done : getD t 0 0 < 4000000 → (x : Scan) (c : List ℕ) → pass x c ≡ passed (Writing loader e) (take 768 (drop 8705 t)) → (q : Request) → q ≡ new-request (getD t 0 0 + 1) loader 5 e 0 v open-guard false → (t′ : List ℕ) → t′ ≡ added (x .used) q (putMid 8705 768 t c)
         → (r : Reply) → r ≡ issued (getD t 0 0 + 1) → Moves d t r t′
     load-done k x c ec q eq t′ et r er =
         moves d t l r t′
         (λ s o y.
         let m = last-is o y in
-        let sc = scan-is o y (writing 8 e) x (told (Writing 8 e) (λ _. refl) t ec) in
-        let a = new-request (s .last + 1) 8 5 e 0 v 0 false in
+        let sc = scan-is o y (writing loader e) x (told (Writing loader e) (λ _. refl) t ec) in
+        let a = new-request (s .last + 1) loader 5 e 0 v open-guard false in
         let q-is : q ≡ a = eq ∙ rw m in
         let done : d s ≡ load s e v = rw (full-is o y false h, left-is o y k) in
         let n : length (s .requests) < places = leb-false places (length (s .requests)) (full-is o y false h) in
         rw done (
           er ∙ ap (λ (i : ℕ). issued (i + 1)) m,
-          et ∙ rw (unmarked (Writing 8 e) (λ _. refl) t ec, y, q-is, sc) (added-state s (length (s .requests)) a refl n refl),
+          et ∙ rw (unmarked (Writing loader e) (λ _. refl) t ec, y, q-is, sc) (added-state s (length (s .requests)) a refl n refl),
         ))
 
 -- ---- 3 request a guard

@@ -14,7 +14,7 @@ use Rattle.requests.specs.declared.Request.{Request}
 use Rattle.requests.specs.declared.Fit.{Fit}
 use Rattle.requests.specs.declared.Fit.the-variants.{Pending, Abandoned}
 use Rattle.requests.specs.declared.Found.the-variants.{At, Nowhere}
-use Rattle.requests.specs.Model.{drop-request, change-request, mark-abandoned}
+use Rattle.requests.specs.Model.{loader, drop-request, change-request, mark-abandoned}
 use Rattle.requests.specs.Region.{regionOf}
 use Rattle.requests.specs.Calls.{found, with-abandoned, without, restarted}
 use Rattle.requests.proofs.Rising.{each-at}
@@ -102,14 +102,14 @@ module _ (n : ℕ) (t : List ℕ) (l : length t ≡ players-words) (k : ℕ) (q 
       fit-moves Pending n abandon t l k q e r t₁
       (λ s o y x.
       let p = form-of (s .last) q (each-at _ 0 (s .requests) (o .requests) q (stands-in x)) .player in
-      (er, rw (eq-eqb (q .kind) 5 h, eq-eqb (q .player) 8 (omega arith)) (given s o y x)))
+      (er, rw (eq-eqb (q .kind) 5 h, eq-eqb (q .player) loader (omega arith)) (given s o y x)))
 
   pub abandon-write : q .kind ≡ 5 → q .player < 8 → (t′ : List ℕ) → t′ ≡ dropped (q .guard) (q .player * 256) 256 t₁ → (r : Reply) → r ≡ refusal 0 → Moves (λ s. step s (Abandon n)) t r t′
   abandon-write h hp t′ et r er =
       fit-moves Pending n abandon t l k q e r t′
       (λ s o y x. (
         er,
-        rw (eq-eqb (q .kind) 5 h, ne-eqb (q .player) 8 (λ z. omega arith)) (et ∙ ap (dropped (q .guard) (q .player * 256) 256) (given s o y x) ∙ dropped-put _ (q .player) (q .guard) hp),
+        rw (eq-eqb (q .kind) 5 h, ne-eqb (q .player) loader (λ z. omega arith)) (et ∙ ap (dropped (q .guard) (q .player * 256) 256) (given s o y x) ∙ dropped-put _ (q .player) (q .guard) hp),
       ))
 
 -- ---- 13 restart a player

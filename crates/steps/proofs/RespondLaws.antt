@@ -15,7 +15,7 @@ use Rattle.store.specs.declared.Reply.{Reply}
 use Rattle.requests.specs.declared.Request.{Request}
 use Rattle.requests.specs.declared.Fit.the-variants.{Answerable}
 use Rattle.requests.specs.declared.Found.the-variants.{At}
-use Rattle.requests.specs.Model.{is-guard-request, is-load}
+use Rattle.requests.specs.Model.{loader, is-guard-request, is-load}
 use Rattle.requests.specs.Region.{fields-hold}
 use Rattle.requests.specs.Calls.{found, without}
 use Rattle.requests.proofs.Basics.{decide, both-left, both-right}
@@ -177,7 +177,7 @@ module _ (r : Request) (hp : r .player < 8) where
       record {
         responded =
             λ s k _ y.
-            rw (ne-eqb (r .first) 1 f, ne-eqb (r .player) 8 (λ z. omega arith))
+            rw (ne-eqb (r .first) 1 f, ne-eqb (r .player) loader (λ z. omega arith))
             (ex ∙ sym (rejected-reply r f), e ∙ ap (dropped (r .guard) (r .player * 256) 256) y ∙ dropped-put (removed s r) (r .player) (r .guard) hp);
       }
 
@@ -222,8 +222,8 @@ load-responds r h t x ex =
     record {
       responded =
           λ s k p y.
-          let z : r .player ≡ 8 = omega arith in
-          let l : is-load r ≡ true = eq-eqb (r .player) 8 z in
+          let z : r .player ≡ loader = omega arith in
+          let l : is-load r ≡ true = eq-eqb (r .player) loader z in
           let q = load-fields r l k in
           let five = q .0 in
           let g : eqb (r .guard) 0 ≡ true = eq-eqb (r .guard) 0 (q .1) in

@@ -7,6 +7,7 @@ use requests::kinds;
 use requests::region;
 use store::Reply;
 use store::codes;
+use store::layout::OPEN;
 use store::refuse;
 ghost use mathlib.Core.Path.{_≡_};
 ghost use lib.ListN.{length};
@@ -35,7 +36,7 @@ pub(crate) fn load(players: &mut [u32], entry: u8, value: u32) -> Reply
     issuing::add(
         players,
         scan.used,
-        issuing::for_entry(last + 1, player, kinds::WRITE, entry, value, 0, false),
+        issuing::for_entry(last + 1, player, kinds::WRITE, entry, value, OPEN, false),
     );
     issued(last + 1)
 }

@@ -1,6 +1,6 @@
 -- Laws of the rule of a guard: open, a serial that was issued, or barred.
 -- Assumes nothing.
-use mathlib.Core.Path.{_≡_, refl}
+use mathlib.Core.Path.{_≡_}
 use mathlib.Core.Logic.{⊎-elim}
 use mathlib.Core.Bool.{Bool, true, false, _&&_, _||_}
 use mathlib.Core.List.{List, [], _∷_}
@@ -8,9 +8,13 @@ use Prim.Native.Nat.{ℕ, zero, suc, _+_, _≤_, _<_}
 use native.Mathlib.Omega.{arith}
 use lib.Dec.{T, leb, eqb}
 use borrow.Author.Tests.{le-leb, lt-leb, leb-true, eqb-true}
-use Rattle.store.specs.Model.{barred}
+use Rattle.store.specs.Model.{serials, barred}
 use Rattle.store.specs.Table.{listed, guard-holds}
 use Rattle.store.proofs.Bools.{decide, is-true, and-both}
+
+-- ‘Barred differs from 0 and from every serial’
+pub barred-no-serial : serials < barred
+barred-no-serial = omega arith
 
 -- as the code tests it
 pub issued-is : (n g : ℕ) → g ≤ n → true ≡ guard-holds n g

@@ -19,5 +19,8 @@ pub const LAST_ENTRY: u32 = 255;
 // The last serial.
 pub const SERIALS: u32 = 4_000_000;
 
-// The guard of a tablet that was restarted: no write carries it.
+// The guard of an entry before its first one, and what a load carries.
+pub const OPEN: u32 = 0;
+
+// The guard of a tablet that was restarted: nothing that a write carries matches it.
 pub const BARRED: u32 = 4_294_967_295;

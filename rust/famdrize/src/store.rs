@@ -94,7 +94,7 @@ pub enum GuardOutcome {
 pub enum WriteOutcome {
     /// It carries the entry's guard, which is not [`BARRED`], and its serial and value become the entry's.
     Committed,
-    /// It carries another guard, and is turned back.
+    /// What it carries does not match the entry's guard: it is turned back.
     Rejected,
 }
 

@@ -48,7 +48,7 @@ pub const REPLIES: [&[u32]; KINDS as usize] = [
     &[0, 28, 35],
     &[0],
     &[0, 28],
-    // Document 02 §1: "replies 9 with first and last entry". Every entry has a guard, 0 or another.
+    // Document 02 §1: "replies 9 with first and last entry". Every entry has a guard, open, barred or a serial.
     &[9],
     // Document 02 §2: "a load, reply 1: a row"; "needing no ownership", so no 29.
     &[1, 33, 34],

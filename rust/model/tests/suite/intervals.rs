@@ -25,7 +25,7 @@ fn fresh_tables() {
     }
 }
 
-/// "replies 9 with first and last entry": guard 2 over 40 to 60, and guard 0 on both sides of it.
+/// "replies 9 with first and last entry": guard 2 over 40 to 60, and open entries on both sides of it.
 #[test]
 fn three_intervals() {
     let given = found(&guarded(), &[0, 39, 40, 45, 59, 60, 255]);
@@ -83,7 +83,7 @@ fn one_guard_twice() {
     assert_eq!(given, [(40, 44), (45, 49), (45, 49), (50, 59)]);
 }
 
-/// Tablets do not cut it: a guard set before the split, and guard 0 on both sides of a boundary.
+/// Tablets do not cut it: a guard set before the split, and open entries on both sides of a boundary.
 #[test]
 fn across_a_boundary() {
     let given = found(&then(&[split(50)]), &[40, 49, 50, 59]);
