@@ -11,7 +11,7 @@ use lib.ListN.{length, getD, set, take, length-set}
 use lib.Seq.{ext-getD, getD-set-same, getD-set-other}
 use mathlib.Core.Logic.{⊎-elim}
 use borrow.Author.Tests.{eq-eqb, ne-eqb, le-leb, lt-leb, lt-ltb, le-ltb, eqb-true, eqb-false}
-use Rattle.store.specs.Model.{Store, serials, put, unbroken, tablet-first, tablet-end, committed, with-boundary, barred}
+use Rattle.store.specs.Model.{Store, serials, put, unbroken, tablet-first, tablet-end, committed, with-boundary, matches, barred}
 use Rattle.store.specs.Table.{part, storeOf, listed, tableOf, valid}
 use Rattle.store.specs.Words.{tested, found-in, guarded-words, install-words, read-words, commit-words, split-words, merge-words, restart-words, interval-words}
 use Rattle.store.specs.Calls.{reply, guard-interval, Result, result, refusal, bad-serial, Done, done, encoded, checked, called, Refines}
@@ -118,19 +118,15 @@ module _ (t : List ℕ) (w : length t ≡ 1280) where
     read-is = rw (eq-eqb (length t) 1280 w)
 
     module _ (v s g : ℕ) where
-      pub commit-barred : g ≡ barred → done (reply 0 2 0) t ≡ tested (commit-words e v s g) t
-      unfolding commit-words
-      commit-barred z = rw (eq-eqb (length t) 1280 w, eq-eqb g barred z)
-
       -- the guard, as the search finds it
       module _ (x : ℕ) (ex : x ≡ found-in t 0 e .guard) where
-        pub commit-other : (g ≡ barred → ⊥) → (x ≡ g → ⊥) → done (reply 0 2 0) t ≡ tested (commit-words e v s g) t
+        pub commit-other : matches g x ≡ false → done (reply 0 2 0) t ≡ tested (commit-words e v s g) t
         unfolding commit-words
-        commit-other z ne = rw (eq-eqb (length t) 1280 w, ← found-guard t w e h, ← ex, ne-eqb g barred z, ne-eqb g x (λ y. ne (sym y)))
+        commit-other m = rw (eq-eqb (length t) 1280 w, ← found-guard t w e h, ← ex, m)
 
-        pub commit-same : (g ≡ barred → ⊥) → x ≡ g → done (reply 0 1 0) (set (set t (768 + e) s) (1024 + e) v) ≡ tested (commit-words e v s g) t
+        pub commit-same : matches g x ≡ true → done (reply 0 1 0) (set (set t (768 + e) s) (1024 + e) v) ≡ tested (commit-words e v s g) t
         unfolding commit-words
-        commit-same z eg = rw (eq-eqb (length t) 1280 w, ← found-guard t w e h, ← ex, ne-eqb g barred z, eq-eqb g x (sym eg))
+        commit-same m = rw (eq-eqb (length t) 1280 w, ← found-guard t w e h, ← ex, m)
 
     pub split-first : e ≡ 0 → done (reply 28 0 0) t ≡ tested (split-words e) t
     unfolding split-words
