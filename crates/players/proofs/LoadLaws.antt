@@ -118,10 +118,6 @@ write-past-loads s p e v lt w o l =
     marked-past [] = refl
     marked-past (r ∷ rs) = rw (← unmarked-load r) (ap (λ (l : List Request). cond (using-entry p e r) (mark-overlapped r) r ∷ l) (marked-past rs))
 
--- the loader does not restart
-pub loader-restart : (s : State) → step s (RestartPlayer loader) ≡ record { state = s; reply = refusal out-of-range }
-loader-restart s = refl
-
 -- ---- the steps that name it
 
 -- ‘Its answer is 4 or 5 and no guard or cell follows from it’: by its outcome, once it is delivered and waits
@@ -167,3 +163,7 @@ module _ (s : State) (k : Ok s) (r : Request) (m : In r (s .requests)) (p : r .p
 -- ‘a restart sets a new mark, barred’: over each entry of the tablet
 pub tablet-barred : (s : State) (e i : ℕ) → within (tablet-first (s .store .boundary) e) (tablet-end (s .store .boundary) e (255 - e)) i ≡ true → step s (RestartTablet e) .state .store .guard i ≡ barred
 tablet-barred s e i w = restart-inside (s .store) e i w
+
+-- the loader does not restart
+pub loader-restart : (s : State) → step s (RestartPlayer loader) ≡ record { state = s; reply = refusal out-of-range }
+loader-restart s = refl
