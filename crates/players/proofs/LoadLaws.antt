@@ -28,10 +28,11 @@ use Rattle.players.proofs.Tables.{Ok}
 use Rattle.players.proofs.StepFacts.{PlaceLeft, check-elim}
 use Rattle.players.proofs.StepCases.{step-ok}
 
--- the players' guards and cached values, and the owners, are as they were
+-- the store, the owners, and the players' guards and cached values are as they were
 pub record Untouched (s t : State) : Type 0 where
-  pub player : t .player ≡ s .player
+  pub store : t .store ≡ s .store
   pub owners : t .owners ≡ s .owners
+  pub player : t .player ≡ s .player
 
 -- ---- step 15
 
@@ -39,13 +40,12 @@ pub record Untouched (s t : State) : Type 0 where
 pub record Loaded (s : State) (e v : ℕ) (r : Result) : Type 0 where
   pub reply : r .reply ≡ issued (s .last + 1)
   pub requests : r .state .requests ≡ s .requests ++ (new-request (s .last + 1) loader 5 e 0 v open-guard false ∷ [])
-  pub store : r .state .store ≡ s .store
   pub untouched : Untouched s (r .state)
 
 -- ‘needing no ownership’: a place and a serial are enough
 pub load-taken : (s : State) (e v : ℕ) → PlaceLeft s → Loaded s e v (step s (Load e v))
 load-taken s e v w =
-    rw (lt-leb places (length (s .requests)) (w .place), lt-leb serials (s .last) (w .serial)) (record { reply = refl; requests = refl; store = refl; untouched = record { player = refl; owners = refl } })
+    rw (lt-leb places (length (s .requests)) (w .place), lt-leb serials (s .last) (w .serial)) (record { reply = refl; requests = refl; untouched = record { store = refl; owners = refl; player = refl } })
 
 -- and only for want of them is it refused
 pub load-refused : (s : State) (e v : ℕ) → let c = step s (Load e v) .reply .code in first-refusal ≤ c → (c ≡ no-place-left) ⊎ (c ≡ no-serial-left)
@@ -147,8 +147,8 @@ module _ (s : State) (k : Ok s) (r : Request) (m : In r (s .requests)) (p : r .p
       let d : is-load r ≡ true = eq-eqb (r .player) loader p in
       rw (named-load Answerable (respond s) t, a, b)
       (⊎-elim
-      (λ y. let one = eqb-true (r .first) 1 y in rw (eq-eqb (r .first) 1 one, c) (record { reply = rw (eq-eqb (r .first) 1 one); untouched = record { player = refl; owners = refl } }))
-      (λ y. let other = eqb-false (r .first) 1 y in rw (ne-eqb (r .first) 1 other, d) (record { reply = rw (ne-eqb (r .first) 1 other); untouched = record { player = refl; owners = refl } }))
+      (λ y. let one = eqb-true (r .first) 1 y in rw (eq-eqb (r .first) 1 one, c) (record { reply = rw (eq-eqb (r .first) 1 one); untouched = record { store = refl; owners = refl; player = refl } }))
+      (λ y. let other = eqb-false (r .first) 1 y in rw (ne-eqb (r .first) 1 other, d) (record { reply = rw (ne-eqb (r .first) 1 other); untouched = record { store = refl; owners = refl; player = refl } }))
       (decide (eqb (r .first) 1)))
 
   -- nor from giving it up, delivered or not
@@ -156,7 +156,7 @@ module _ (s : State) (k : Ok s) (r : Request) (m : In r (s .requests)) (p : r .p
   load-abandoned t =
       let a : is-write r ≡ true = eq-eqb (r .kind) 5 (loader-request s k r m p .kind) in
       let d : is-load r ≡ true = eq-eqb (r .player) loader p in
-      rw (named-load Pending (abandon s) t, a, d) (record { player = refl; owners = refl })
+      rw (named-load Pending (abandon s) t, a, d) (record { store = refl; owners = refl; player = refl })
 
 -- ---- restarts
 
