@@ -19,7 +19,7 @@ use Rattle.players.specs.declared.Step.the-variants.{Assign, RequestGuard, Read
 use Rattle.players.specs.Rules.{State, step, fresh}
 use Rattle.players.specs.Replies.{done}
 use Rattle.players.specs.Regions.{region}
-use Rattle.players.specs.Table.{cell, stateOf, tableOf, cached-holds, cached-all, valid, valid-players}
+use Rattle.players.specs.Table.{cell, held-at, requests-at, stateOf, tableOf, cached-holds, cached-all, valid, valid-players}
 use Rattle.players.specs.Calls.{Done, left as leaves, whole}
 use Rattle.players.specs.Played.{taken, state-after}
 use Rattle.players.specs.Cases.{range}
@@ -292,11 +292,11 @@ load-fits = (tt, tt, tt)
 
 -- the j-th word of the request in place i
 abbrev request-word : List ℕ → ℕ → ℕ → ℕ
-request-word t i j = getD t (8705 + i * 12 + j) 0
+request-word t i j = getD t (requests-at + (i * 12 + j)) 0
 
 -- the guard that player p has for entry e
 abbrev held-word : List ℕ → ℕ → ℕ → ℕ
-held-word t p e = getD t (513 + p * 256 + e) 0
+held-word t p e = getD t (held-at + (p * 256 + e)) 0
 
 -- a reply's code and first number; the mark of the first request, the serial and mark of the third; player 0's guard for entry 1, and the store's
 abbrev load-seen : Done → List ℕ
