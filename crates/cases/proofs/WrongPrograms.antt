@@ -298,19 +298,24 @@ request-word t i j = getD t (requests-at + (i * 12 + j)) 0
 abbrev held-word : List ℕ → ℕ → ℕ → ℕ
 held-word t p e = getD t (held-at + (p * 256 + e)) 0
 
--- a reply's code and first number; the mark of the first request, the serial and mark of the third; player 0's guard for entry 1, and the store's
+-- a reply's code and first number; the mark of the first request; serial, mark, player, kind and carried guard of the third; player 0's guard for
+-- entry 1, and the store's
 abbrev load-seen : Done → List ℕ
-load-seen d = d .reply .code ∷ d .reply .a ∷ request-word (d .players) 0 7 ∷ request-word (d .players) 2 0 ∷ request-word (d .players) 2 7 ∷ held-word (d .players) 0 1 ∷ storeOf (d .store) .guard 1 ∷ []
+load-seen d =
+    d .reply .code ∷ d .reply .a ∷ request-word (d .players) 0 7 ∷ held-word (d .players) 0 1 ∷ storeOf (d .store) .guard 1 ∷ map (request-word (d .players) 2) (0 ∷ 7 ∷ 1 ∷ 2 ∷ 6 ∷ [])
 
--- another load, the answer to load 4, a restart; then kind, entry and whether it is given up of read 3, and serial, player and entry of load 4
+-- another load, the answer to load 4, a restart; then kind, entry and whether it is given up of read 3; serial, player, kind, entry and whether it is
+-- given up of load 4; the store's guard of entry 1 before
 load-rows :
     map load-seen
     (taken (Load 1 7) (store-after load-waits) (players-after load-waits)
     ∷ taken (Respond 4) (store-after load-arrived) (players-after load-arrived)
     ∷ taken (RestartTablet 1) (store-after load-waits) (players-after load-waits)
     ∷ [])
-    ++ (map (request-word (players-after load-waits) 0) (2 ∷ 3 ∷ 9 ∷ []) ∷ map (request-word (players-after load-arrived) 1) (0 ∷ 1 ∷ 3 ∷ []) ∷ [])
-    ≡ (1 ∷ 5 ∷ 0 ∷ 5 ∷ 0 ∷ 2 ∷ 2 ∷ []) ∷ (5 ∷ 4 ∷ 0 ∷ 0 ∷ 0 ∷ 2 ∷ 2 ∷ []) ∷ (0 ∷ 0 ∷ 0 ∷ 0 ∷ 0 ∷ 2 ∷ barred ∷ []) ∷ (4 ∷ 1 ∷ 0 ∷ []) ∷ (4 ∷ 8 ∷ 1 ∷ []) ∷ []
+    ++ (map (request-word (players-after load-waits) 0) (2 ∷ 3 ∷ 9 ∷ []) ∷ map (request-word (players-after load-waits) 1) (0 ∷ 1 ∷ 2 ∷ 3 ∷ 9 ∷ [])
+    ∷ map (request-word (players-after load-arrived) 1) (0 ∷ 1 ∷ 3 ∷ []) ∷ (storeOf (store-after load-waits) .guard 1 ∷ []) ∷ [])
+    ≡ (1 ∷ 5 ∷ 0 ∷ 2 ∷ 2 ∷ 5 ∷ 0 ∷ 8 ∷ 5 ∷ 0 ∷ []) ∷ (5 ∷ 4 ∷ 0 ∷ 2 ∷ 2 ∷ 0 ∷ 0 ∷ 0 ∷ 0 ∷ 0 ∷ []) ∷ (0 ∷ 0 ∷ 0 ∷ 2 ∷ barred ∷ 0 ∷ 0 ∷ 0 ∷ 0 ∷ 0 ∷ []) ∷ (4 ∷ 1 ∷ 0 ∷ []) ∷ (4 ∷ 8 ∷ 5 ∷ 1 ∷ 0 ∷ [])
+    ∷ (4 ∷ 8 ∷ 1 ∷ []) ∷ (2 ∷ []) ∷ []
 unfolding unbroken tablet-first tablet-end seek guardAt requestOf requestsFrom requestsOf fields-hold outcome-holds request-holds words-fit cell region at-most cached-holds cached-all placed places-hold valid-requests boundaries intervals rising guard-holds coded laid valid valid-players valid-store stateOf storeOf part-of store-table tableOf listed state-after
 load-rows = refl
 
@@ -321,27 +326,59 @@ module _ (f : Program) (k : Keeps f) where
   abbrev waits-players : List ℕ
   waits-players = players-after load-waits
 
+  waits-handed : Handed (Load 1 7) waits-store waits-players
+  waits-handed = (load-fits .0, load-words .0, load-words .1)
+
   loaded : f (Load 1 7) waits-store waits-players ≡ taken (Load 1 7) waits-store waits-players
-  loaded = k (Load 1 7) waits-store waits-players (load-fits .0, load-words .0, load-words .1)
+  loaded = k (Load 1 7) waits-store waits-players waits-handed
+
+  -- the load is taken
+  one : f (Load 1 7) waits-store waits-players .reply .code ≡ 1
+  one = ap (λ (d : Done). d .reply .code) loaded ∙ at 0 0 load-rows
+
+  -- its request is the third
+  own : request-word (f (Load 1 7) waits-store waits-players .players) 2 0 ≡ f (Load 1 7) waits-store waits-players .reply .a
+  own = (ap (λ (d : Done). request-word (d .players) 2 0) loaded ∙ at 0 5 load-rows) ∙ sym (ap (λ (d : Done). d .reply .a) loaded ∙ at 0 1 load-rows)
 
   -- a load that marks the waiting reads on its entry
   pub load-marks :
       ((e v i : ℕ) (st t : List ℕ) → Handed (Load e v) st t → f (Load e v) st t .reply .code ≡ 1 → request-word t i 2 ≡ 4 → request-word t i 3 ≡ e → request-word t i 9 ≡ 0
       → request-word (f (Load e v) st t .players) i 7 ≡ 1) → ⊥
   load-marks fault =
-      let one = ap (λ (d : Done). d .reply .code) loaded ∙ at 0 0 load-rows in
-      let marked = fault 1 7 0 waits-store waits-players (load-fits .0, load-words .0, load-words .1) one (at 3 0 load-rows) (at 3 1 load-rows) (at 3 2 load-rows) in
+      let marked = fault 1 7 0 waits-store waits-players waits-handed one (at 3 0 load-rows) (at 3 1 load-rows) (at 3 2 load-rows) in
       omega (arith, marked, ap (λ (d : Done). request-word (d .players) 0 7) loaded, at 0 2 load-rows)
 
-  -- one that is overlapped where another request on its entry waits
+  -- one that is overlapped where another load, or a write, waits on its entry
   pub load-overlapped :
-      ((e v i j : ℕ) (st t : List ℕ) → Handed (Load e v) st t → request-word t i 3 ≡ e → request-word t i 9 ≡ 0 → request-word (f (Load e v) st t .players) j 0 ≡ f (Load e v) st t .reply .a
-      → request-word (f (Load e v) st t .players) j 7 ≡ 1) → ⊥
+      ((e v i j : ℕ) (st t : List ℕ) → Handed (Load e v) st t → f (Load e v) st t .reply .code ≡ 1 → request-word t i 2 ≡ 5 → request-word t i 3 ≡ e → request-word t i 9 ≡ 0
+      → request-word (f (Load e v) st t .players) j 0 ≡ f (Load e v) st t .reply .a → request-word (f (Load e v) st t .players) j 7 ≡ 1) → ⊥
   load-overlapped fault =
-      let own = ap (λ (d : Done). request-word (d .players) 2 0) loaded ∙ at 0 3 load-rows in
-      let serial = ap (λ (d : Done). d .reply .a) loaded ∙ at 0 1 load-rows in
-      let marked = fault 1 7 0 2 waits-store waits-players (load-fits .0, load-words .0, load-words .1) (at 3 1 load-rows) (at 3 2 load-rows) (own ∙ sym serial) in
-      omega (arith, marked, ap (λ (d : Done). request-word (d .players) 2 7) loaded, at 0 4 load-rows)
+      let marked = fault 1 7 1 2 waits-store waits-players waits-handed one (at 4 2 load-rows) (at 4 3 load-rows) (at 4 4 load-rows) own in
+      omega (arith, marked, ap (λ (d : Done). request-word (d .players) 2 7) loaded, at 0 6 load-rows)
+
+  -- one whose request is a player's
+  pub load-by-player :
+      ((e v j : ℕ) (st t : List ℕ) → Handed (Load e v) st t → f (Load e v) st t .reply .code ≡ 1 → request-word (f (Load e v) st t .players) j 0 ≡ f (Load e v) st t .reply .a
+      → request-word (f (Load e v) st t .players) j 1 < loader) → ⊥
+  load-by-player fault =
+      let player = fault 1 7 2 waits-store waits-players waits-handed one own in
+      omega (arith, player, ap (λ (d : Done). request-word (d .players) 2 1) loaded, at 0 7 load-rows)
+
+  -- one whose request has the number of its step for its kind
+  pub load-by-step-kind :
+      ((e v j : ℕ) (st t : List ℕ) → Handed (Load e v) st t → f (Load e v) st t .reply .code ≡ 1 → request-word (f (Load e v) st t .players) j 0 ≡ f (Load e v) st t .reply .a
+      → request-word (f (Load e v) st t .players) j 2 ≡ 15) → ⊥
+  load-by-step-kind fault =
+      let fifteen = fault 1 7 2 waits-store waits-players waits-handed one own in
+      omega (arith, fifteen, ap (λ (d : Done). request-word (d .players) 2 2) loaded, at 0 8 load-rows)
+
+  -- one that carries the guard which the store has for its entry
+  pub load-carries-guard :
+      ((e v j : ℕ) (st t : List ℕ) → Handed (Load e v) st t → f (Load e v) st t .reply .code ≡ 1 → request-word (f (Load e v) st t .players) j 0 ≡ f (Load e v) st t .reply .a
+      → request-word (f (Load e v) st t .players) j 6 ≡ storeOf st .guard e) → ⊥
+  load-carries-guard fault =
+      let carried = fault 1 7 2 waits-store waits-players waits-handed one own in
+      omega (arith, carried, ap (λ (d : Done). request-word (d .players) 2 6) loaded, at 0 9 load-rows, at 6 0 load-rows)
 
   -- an answer 5 to a load that clears the guard which a player has for its entry
   pub load-clears :
@@ -353,8 +390,8 @@ module _ (f : Program) (k : Keeps f) where
       let h : Handed (Respond 4) st t = (load-fits .1, load-words .2, load-words .3) in
       let answered = k (Respond 4) st t h in
       let five = ap (λ (d : Done). d .reply .code) answered ∙ at 1 0 load-rows in
-      let cleared = fault 4 1 0 1 st t h five (at 4 0 load-rows) (at 4 1 load-rows) (at 4 2 load-rows) (omega arith) in
-      omega (arith, cleared, ap (λ (d : Done). held-word (d .players) 0 1) answered, at 1 5 load-rows)
+      let cleared = fault 4 1 0 1 st t h five (at 5 0 load-rows) (at 5 1 load-rows) (at 5 2 load-rows) (omega arith) in
+      omega (arith, cleared, ap (λ (d : Done). held-word (d .players) 0 1) answered, at 1 3 load-rows)
 
   -- a tablet restart that leaves its entry open
   pub restart-opens : ((e : ℕ) (st t : List ℕ) → Handed (RestartTablet e) st t → f (RestartTablet e) st t .reply .code ≡ 0 → storeOf (f (RestartTablet e) st t .store) .guard e ≡ open-guard) → ⊥
@@ -362,7 +399,7 @@ module _ (f : Program) (k : Keeps f) where
       let h : Handed (RestartTablet 1) waits-store waits-players = (load-fits .2, load-words .0, load-words .1) in
       let restarted = k (RestartTablet 1) waits-store waits-players h in
       let opened = fault 1 waits-store waits-players h (ap (λ (d : Done). d .reply .code) restarted ∙ at 2 0 load-rows) in
-      omega (arith, opened, ap (λ (d : Done). storeOf (d .store) .guard 1) restarted, at 2 6 load-rows)
+      omega (arith, opened, ap (λ (d : Done). storeOf (d .store) .guard 1) restarted, at 2 4 load-rows)
 
 -- ---- a run
 

@@ -1,4 +1,4 @@
--- Laws of the rule of a guard: open, a serial that was issued, or barred.
+-- Laws of guards: what matches the two that are no serial, and the rule of a guard, which is open, a serial that was issued, or barred.
 -- Assumes nothing.
 use mathlib.Core.Path.{_≡_}
 use mathlib.Core.Logic.{⊎-elim}
@@ -7,14 +7,22 @@ use mathlib.Core.List.{List, [], _∷_}
 use Prim.Native.Nat.{ℕ, zero, suc, _+_, _≤_, _<_}
 use native.Mathlib.Omega.{arith}
 use lib.Dec.{T, leb, eqb}
-use borrow.Author.Tests.{le-leb, lt-leb, leb-true, eqb-true}
-use Rattle.store.specs.Model.{serials, barred}
+use borrow.Author.Tests.{le-leb, lt-leb, leb-true, ne-eqb, eqb-true}
+use Rattle.store.specs.Model.{serials, open-guard, barred, matches}
 use Rattle.store.specs.Table.{listed, guard-holds}
 use Rattle.store.proofs.Bools.{decide, is-true, and-both}
 
 -- ‘Barred differs from 0 and from every serial’
 pub barred-no-serial : serials < barred
 barred-no-serial = omega arith
+
+-- ‘guard 0 is open and matches a carried 0’, and nothing else
+pub open-matches : (carried : ℕ) → matches carried open-guard ≡ eqb carried open-guard
+open-matches c = ⊎-elim (λ h. let z = eqb-true c barred h in rw (h, ne-eqb c open-guard (omega arith))) (λ h. rw h) (decide (eqb c barred))
+
+-- ‘barred, that matches nothing’
+pub barred-matches-nothing : (carried : ℕ) → matches carried barred ≡ false
+barred-matches-nothing c = ⊎-elim (λ h. rw h) (λ h. rw h) (decide (eqb c barred))
 
 -- as the code tests it
 pub issued-is : (n g : ℕ) → g ≤ n → true ≡ guard-holds n g
