@@ -2,7 +2,7 @@
 -- Assumes nothing.
 use mathlib.Core.Path.{_≡_, refl, sym, ap, _∙_}
 use mathlib.Core.Logic.{⊎-elim}
-use mathlib.Core.Bool.{Bool, true, false, cond, _&&_}
+use mathlib.Core.Bool.{Bool, true, false, cond, not, _&&_, _||_, and-assoc, and-true}
 use mathlib.Core.List.{List, _∷_}
 use Prim.Native.Nat.{ℕ, _+_, _≤_, _<_}
 use native.Mathlib.Omega.{arith}
@@ -10,7 +10,7 @@ use native.Mathlib.Numerals.{add-one}
 use lib.Dec.{leb, eqb}
 use lib.ListN.{length, getD, take, drop, drop-of-length-le, length-drop}
 use lib.Seq.{drop-cons, getD-take, getD-drop, length-take-le}
-use borrow.Author.Tests.{eq-eqb, ne-eqb, le-leb, lt-leb, eqb-true}
+use borrow.Author.Tests.{eq-eqb, ne-eqb, le-leb, lt-leb, lt-ltb, eqb-true}
 use Rattle.store.specs.Model.{fresh as fresh-store}
 use Rattle.store.specs.Table.{at-most, tableOf as store-table, valid as valid-store}
 use Rattle.store.specs.Calls.{reply, checked as checked-store, done as stored-as, Done as StoreDone, made-fresh as store-made}
@@ -21,71 +21,66 @@ use Rattle.players.specs.Replies.{refusal}
 use Rattle.players.specs.Rules.{fresh}
 use Rattle.players.specs.Calls.{left, whole, checked, made-fresh}
 use Rattle.players.specs.Regions.{region}
-use Rattle.players.specs.Table.{players-words, tableOf, valid-players, valid, cached-holds, cached-all}
+use Rattle.players.specs.Table.{players-words, cell-count, guards-at, versions-at, values-at, cell, Stands, tableOf, valid-players, valid, cached-holds, cached-at, cached-all}
+use Rattle.players.proofs.RunningNumbers.{stands-number, stands-entry}
 
 -- ---- cached values
 
-module _ (n g v x : ℕ) where
-  pub value-guard : n < g → false ≡ cached-holds n g v x
-  unfolding cached-holds
-  value-guard h = rw (lt-leb g n h)
+-- the tests of a cached value, as the code joins them and as the rule does
+regroup : (a b c d e : Bool) → (a && b && (not c || d && e)) ≡ (a && (b && cond c (d && e) true))
+regroup true true true d e = refl
+regroup true true false d e = refl
+regroup true false c d e = refl
+regroup false b c d e = refl
 
-  pub value-version : g ≤ n → n < v → false ≡ cached-holds n g v x
-  unfolding cached-holds
-  value-version h k = rw (le-leb g n h, lt-leb v n k)
-
-  pub value-full : g ≤ n → v ≤ n → (g ≡ 0 → ⊥) → true ≡ cached-holds n g v x
-  unfolding cached-holds
-  value-full h k z = rw (le-leb g n h, le-leb v n k, ne-eqb g 0 z)
-
-  pub value-empty : g ≤ n → v ≤ n → g ≡ 0 → (v ≡ 0 → ⊥) → false ≡ cached-holds n g v x
-  unfolding cached-holds
-  value-empty h k z y = rw (le-leb g n h, le-leb v n k, eq-eqb g 0 z, ne-eqb v 0 y)
-
-  pub value-rest : g ≤ n → v ≤ n → g ≡ 0 → v ≡ 0 → eqb x 0 ≡ cached-holds n g v x
-  unfolding cached-holds
-  value-rest h k z y = rw (le-leb g n h, le-leb v n k, eq-eqb g 0 z, eq-eqb v 0 y)
+pub value-is : (n g v x : ℕ) → (leb g n && leb v n && (not (eqb g 0) || eqb v 0 && eqb x 0)) ≡ cached-holds n g v x
+unfolding cached-holds
+value-is n g v x = regroup (leb g n) (leb v n) (eqb g 0) (eqb v 0) (eqb x 0)
 
 drop-next : (l : List ℕ) (i : ℕ) → i < length l → drop i l ≡ getD l i 0 ∷ drop (i + 1) l
 drop-next l i h = rw (add-one, drop-cons l i 0)
 
-module _ (n : ℕ) (t : List ℕ) (l : length t ≡ players-words) (i : ℕ) where
-  -- a column of 2,048 words
-  abbrev pub column : ℕ → List ℕ
-  column b = take 2048 (drop b t)
+-- the 2,048 words from b on
+abbrev column : List ℕ → ℕ → List ℕ
+column t b = take cell-count (drop b t)
 
-  length-column : (b : ℕ) → b + 2048 ≤ players-words → length (column b) ≡ 2048
-  length-column b h = length-take-le 2048 (drop b t) (rw length-drop (omega arith))
+-- the test of the cached values from the running number i on
+abbrev pub rest-holds : List ℕ → ℕ → Bool
+rest-holds t i = cached-all (getD t 0 0) (drop i (column t guards-at)) (drop i (column t versions-at)) (drop i (column t values-at))
 
-  column-at : (b : ℕ) → i < 2048 → getD (column b) i 0 ≡ getD t (b + i) 0
-  column-at b h = getD-take 2048 (drop b t) i 0 h ∙ getD-drop b t i 0
+module _ (t : List ℕ) (l : length t ≡ players-words) (i : ℕ) where
+  length-column : (b : ℕ) → b + cell-count ≤ players-words → length (column t b) ≡ cell-count
+  length-column b h = length-take-le cell-count (drop b t) (rw length-drop (omega arith))
 
-  abbrev pub rest-holds : ℕ → Bool
-  rest-holds j = cached-all n (drop j (column 2561)) (drop j (column 4609)) (drop j (column 6657))
+  module _ (h : i < cell-count) where
+    column-at : (b : ℕ) → getD (column t b) i 0 ≡ getD t (b + i) 0
+    column-at b = getD-take cell-count (drop b t) i 0 h ∙ getD-drop b t i 0
 
-  rest-is : i < 2048 → rest-holds i ≡ (cached-holds n (getD t (2561 + i) 0) (getD t (4609 + i) 0) (getD t (6657 + i) 0) && rest-holds (i + 1))
+    column-next : (b : ℕ) → b + cell-count ≤ players-words → drop i (column t b) ≡ getD t (b + i) 0 ∷ drop (i + 1) (column t b)
+    column-next b k = drop-next (column t b) i (rw (length-column b k) h) ∙ rw (column-at b)
+
+    module _ (p e : ℕ) (s : Stands i p e) where
+      cell-is : (b : ℕ) → cell (region b cell-count t) p e ≡ getD t (b + i) 0
+      unfolding cell region
+      cell-is b = rw (lt-ltb e 256 (stands-entry i p e s), sym (stands-number i p e s)) (column-at b)
+
+      -- the cell with a running number is that of the pair for which it stands
+      pub cached-at-is : cached-at t p e ≡ cached-holds (getD t 0 0) (getD t (guards-at + i) 0) (getD t (versions-at + i) 0) (getD t (values-at + i) 0)
+      unfolding cached-at
+      cached-at-is = rw (cell-is guards-at, cell-is versions-at, cell-is values-at)
+
+      -- b is what the cells before gave, and r what this one gives
+      pub values-turn : (b r : Bool) → r ≡ cached-at t p e → (b && r && rest-holds t (i + 1)) ≡ (b && rest-holds t i)
+      unfolding cached-all
+      values-turn b r f =
+          and-assoc b r (rest-holds t (i + 1))
+          ∙ rw (f, cached-at-is, column-next guards-at (omega arith), column-next versions-at (omega arith), column-next values-at (omega arith))
+
+  pub values-end : (b : Bool) → cell-count ≤ i → (b && rest-holds t i) ≡ b
   unfolding cached-all
-  rest-is h =
-      rw (
-        drop-next (column 2561) i (rw (length-column 2561 (omega arith)) h),
-        drop-next (column 4609) i (rw (length-column 4609 (omega arith)) h),
-        drop-next (column 6657) i (rw (length-column 6657 (omega arith)) h),
-        column-at 2561 h,
-        column-at 4609 h,
-        column-at 6657 h,
-      )
-
-  pub values-stop : i < 2048 → cached-holds n (getD t (2561 + i) 0) (getD t (4609 + i) 0) (getD t (6657 + i) 0) ≡ false → rest-holds i ≡ false
-  values-stop h z = rest-is h ∙ rw z
-
-  pub values-more : i < 2048 → cached-holds n (getD t (2561 + i) 0) (getD t (4609 + i) 0) (getD t (6657 + i) 0) ≡ true → rest-holds i ≡ rest-holds (i + 1)
-  values-more h z = rest-is h ∙ rw z
-
-  pub values-end : 2048 ≤ i → rest-holds i ≡ true
-  unfolding cached-all
-  values-end h =
-      let k : length (column 2561) ≤ i = rw (length-column 2561 (omega arith)) h in
-      rw (drop-of-length-le (column 2561) k)
+  values-end b h =
+      let k : length (column t guards-at) ≤ i = rw (length-column guards-at (omega arith)) h in
+      rw (drop-of-length-le (column t guards-at) k, and-true b)
 
 -- ---- the table
 

@@ -2,6 +2,7 @@
 pub mod Regions
 pub mod Tables
 pub mod FreshLaws
+pub mod RunningNumbers
 pub mod CheckLaws
 pub mod StepFacts
 pub mod Kept

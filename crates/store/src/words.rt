@@ -5,18 +5,17 @@ ghost use lib.Dec.{eqb};
 ghost use lib.ListN.{length, replicate};
 ghost use Rattle.store.specs.Table.{at-most};
 
-// Whether each word of `part` is at most `n`.
+// Whether each word of `part` is at most `n`. No word ends the loop early, so that the compiler can test several at once.
 pub fn at_most(part: &[u32], n: u32) -> bool
     ensures { λ r. ⌜ r ≡ at-most n (now (part .entry)) ⌝ }
 {
+    let mut good = true;
     let mut i = 0;
     while i < part.len() {
-        if part[i] > n {
-            return false;
-        }
+        good = good & (part[i] <= n);
         i += 1;
     }
-    true
+    good
 }
 
 // Makes each word of `part` be `v`.

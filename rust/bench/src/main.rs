@@ -162,17 +162,14 @@ fn passes() {
             }));
         }
         let figures: Vec<f64> = figures.into_iter().map(median).collect();
-        let pass = figures[libraries().len()];
+        let (pass, adding) = (figures[libraries().len()], figures[libraries().len() + 1]);
         println!("{}:", work.name);
         for ((name, _), figure) in libraries().iter().zip(&figures) {
-            println!("    {name:<12}{figure:>9.0}   {:.2} passes", figure / pass);
+            let (stopping, whole) = (figure / pass, figure / adding);
+            println!("    {name:<12}{figure:>9.0}   {whole:.2} of adding up, {stopping:.2} of one pass");
         }
+        println!("    {:<12}{adding:>9.0}", "adding up");
         println!("    {:<12}{pass:>9.0}", "one pass");
-        println!(
-            "    {:<12}{:>9.0}",
-            "adding up",
-            figures[libraries().len() + 1]
-        );
     }
 }
 

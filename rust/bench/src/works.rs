@@ -8,6 +8,7 @@ use model::numbers::MAX_SERIAL;
 use model::prng::Prng;
 use model::rules;
 use model::state::State;
+use model::states::full_state;
 use model::tables::tables_of;
 use model::trial::play;
 use port::Port;
@@ -376,5 +377,6 @@ pub fn calls() -> Vec<Work> {
         ),
         Work::new("check, fresh tables", &State::fresh(), Act::Check, 1),
         Work::new("check, 64 requests", &full, Act::Check, 1),
+        Work::new("check, full tables", &full_state(), Act::Check, 1),
     ]
 }

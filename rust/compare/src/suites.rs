@@ -4,11 +4,11 @@ use calls::{Fields, Library, Range, Request, Step, KINDS, MAPS};
 use model::broken::{bar, break_rule, damage, SERIAL_RULES};
 use model::codec::{self, MARK, MAX_SESSION, RECORD_LENGTHS};
 use model::generate::{any_step, step_for, Profile};
-use model::numbers::{BARRED, MAX_SERIAL, OPEN};
+use model::numbers::{BARRED, MAX_REQUESTS, MAX_SERIAL, OPEN};
 use model::prng::Prng;
 use model::rules;
 use model::state::State;
-use model::states::any_state;
+use model::states::{any_state, full_state};
 use model::table_rules::{TableError, TableRule};
 use model::tables::{self, tables_of, PLAYERS_WORDS, STORE_WORDS};
 
@@ -191,7 +191,7 @@ pub fn run_to_failure<L: Library>(library: &L, plan: Plan, counts: &mut Counts) 
         .find(|outcome| outcome.failure.is_some())
 }
 
-fn groups<L: Library>() -> [(&'static str, Run<L>); 18] {
+fn groups<L: Library>() -> [(&'static str, Run<L>); 19] {
     [
         ("random sessions, step by step", sessions),
         ("near the last serial", late),
@@ -211,6 +211,7 @@ fn groups<L: Library>() -> [(&'static str, Run<L>); 18] {
         ("the session's mark", marks),
         ("requests counted", waiting),
         ("the store alone", store_alone),
+        ("each word in turn", each_word),
     ]
 }
 
@@ -746,6 +747,35 @@ fn store_alone(group: &mut Group<impl Library>) {
         };
         if group.fails(case) {
             return;
+        }
+    }
+}
+
+/// Each word of both tables in turn made each number at the edge of a rule, on tables that are empty and
+/// on such as are full: the test of the tables passes over no word, also where a row of cells ends or
+/// several words are tested at once.
+fn each_word(group: &mut Group<impl Library>) {
+    let mut empty = State::fresh();
+    empty.last_serial = MAX_REQUESTS as u32;
+    for state in [empty, full_state()] {
+        let last = state.last_serial;
+        let (store, players) = tables_of(&state);
+        for at in 0..STORE_WORDS + PLAYERS_WORDS {
+            for word in [0, 1, 2, 8, 9, last, last + 1, BARRED] {
+                let (mut store, mut players) = (store.clone(), players.clone());
+                match at.checked_sub(STORE_WORDS) {
+                    None => store[at] = word,
+                    Some(at) => players[at] = word,
+                }
+                let case = Case {
+                    store,
+                    players,
+                    act: Act::Check,
+                };
+                if group.fails(case) {
+                    return;
+                }
+            }
         }
     }
 }

@@ -45,6 +45,10 @@ pub enum Point {
     RunTablesUntested,
     /// A players' table of the wrong length is 22.
     PlayersLengthAsRule,
+    /// The test of the tables passes over the first cell of each player but player 0.
+    CheckMissesRowStarts,
+    /// The test of the tables passes over the last cell of the last player.
+    CheckMissesLastCell,
     /// Fresh leaves the last word of the players' table.
     FreshMissesLastWord,
     /// A refused step takes a serial.
@@ -105,7 +109,7 @@ pub enum Point {
 
 impl Point {
     /// Every point.
-    pub const ALL: [Point; 42] = [
+    pub const ALL: [Point; 44] = [
         Point::RefusesEachStep,
         Point::RepliesOneToAll,
         Point::SetsNothing,
@@ -120,6 +124,8 @@ impl Point {
         Point::RunPlaceBefore,
         Point::RunTablesUntested,
         Point::PlayersLengthAsRule,
+        Point::CheckMissesRowStarts,
+        Point::CheckMissesLastCell,
         Point::FreshMissesLastWord,
         Point::RefusedTakesSerial,
         Point::OnePlaceFewer,
@@ -174,6 +180,21 @@ impl Wrong {
 
 const FULL: usize = tables::REQUESTS + 63 * 12;
 
+/// The players' table with some cells emptied, by their running numbers.
+fn without_cells(players: &[u32], numbers: impl IntoIterator<Item = usize>) -> Vec<u32> {
+    let mut players = players.to_vec();
+    for at in numbers {
+        for column in [
+            tables::CACHED_GUARDS,
+            tables::CACHED_VERSIONS,
+            tables::CACHED_VALUES,
+        ] {
+            players[column + at] = 0;
+        }
+    }
+    players
+}
+
 /// The number of requests of a players' table.
 fn used(players: &[u32]) -> usize {
     players[tables::REQUESTS..]
@@ -207,6 +228,12 @@ impl Library for Wrong {
         }
         if reply.code == 21 && store.len() == 1_280 && self.is(Point::PlayersLengthAsRule) {
             return Reply::refused(22);
+        }
+        if reply.code == 22 && self.is(Point::CheckMissesRowStarts) {
+            return Port.check(store, &without_cells(players, (256..2_048).step_by(256)));
+        }
+        if reply.code == 22 && self.is(Point::CheckMissesLastCell) {
+            return Port.check(store, &without_cells(players, [2_047]));
         }
         reply
     }

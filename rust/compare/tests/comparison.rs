@@ -55,5 +55,5 @@ fn wrong_libraries_are_caught() {
         assert!(text.contains("library"), "{}: {text}", library.name);
         tried += 1;
     });
-    assert_eq!(tried, 135);
+    assert_eq!(tried, 137);
 }

@@ -1,9 +1,10 @@
-//! Random states that keep the table rules.
+//! States that keep the table rules: random ones, and one that leaves no word unused.
 
-use calls::Range;
+use calls::{Range, Step};
 
-use crate::numbers::{BARRED, LOADER, MAX_REQUESTS, MAX_SERIAL, OPEN, PLAYERS};
+use crate::numbers::{BARRED, ENTRIES, LOADER, MAX_REQUESTS, MAX_SERIAL, OPEN, PLAYERS};
 use crate::prng::Prng;
+use crate::rules;
 use crate::state::{Cached, Operation, Request, State};
 use crate::store::{GuardOutcome, Versioned, WriteOutcome};
 
@@ -73,6 +74,58 @@ pub fn any_state(rng: &mut Prng) -> State {
     for request in request_serials(rng, count, last_serial) {
         let request = any_request(rng, request, serial);
         state.requests.push(request);
+    }
+    state
+}
+
+/// A state that leaves no word unused: every player has a guard and a cached value for every entry, there
+/// are 64 requests of all sorts, six of each player and 16 loads, and 256 guard intervals, and every entry
+/// begins a tablet and is owned.
+pub fn full_state() -> State {
+    let mut state = State::fresh();
+    state.last_serial = 1;
+    for entry in 0..ENTRIES {
+        let player = entry % PLAYERS;
+        state.owners[entry] = player as u8;
+        state.held[player][entry] = 1;
+    }
+    for at in 0..MAX_REQUESTS {
+        let player = (at / 8) as u8;
+        let entry = player + 8 * (at % 8) as u8;
+        let range = Range::new(entry, u16::from(entry) + 1);
+        let value = u32::MAX;
+        let step = match at % 8 {
+            0 => Step::RequestGuard { player, range },
+            1 | 4 => Step::Write {
+                player,
+                entry,
+                value,
+            },
+            2 | 6 => Step::Load { entry, value },
+            _ => Step::Read { player, entry },
+        };
+        let serial = rules::step(&mut state, step).a;
+        match at % 8 {
+            0..=3 => rules::step(&mut state, Step::Deliver { serial }),
+            4 | 5 => rules::step(&mut state, Step::Abandon { serial }),
+            _ => continue,
+        };
+    }
+    let last = state.last_serial;
+    state.store.boundaries.fill(true);
+    state.store.versions.fill(last);
+    state.store.values.fill(u32::MAX);
+    state.epochs.fill(last);
+    for (entry, guard) in state.store.guards.iter_mut().enumerate() {
+        *guard = [last, BARRED][entry % 2];
+    }
+    for player in 0..PLAYERS {
+        state.held[player].fill(last);
+        state.cached[player].fill(Cached {
+            guard: last,
+            version: last,
+            value: u32::MAX,
+        });
     }
     state
 }

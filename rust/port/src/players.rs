@@ -17,19 +17,19 @@ pub fn fresh(store: &mut [u32], players: &mut [u32]) -> Reply {
 
 /// Whether a cached value keeps the rules.
 fn value_holds(last: u32, guard: u32, version: u32, value: u32) -> bool {
-    guard <= last && version <= last && (guard != 0 || (version == 0 && value == 0))
+    (guard <= last) & (version <= last) & ((guard != 0) | ((version == 0) & (value == 0)))
 }
 
-/// Whether each cached value keeps the rules.
+/// Whether each cached value keeps the rules. The library carries player and entry along, which
+/// leave nothing in its machine code; here they would be unused.
 fn values_hold(players: &[u32]) -> bool {
     let last = players[0];
     let (guards, versions) = (&players[2561..4609], &players[4609..6657]);
     let values = &players[6657..8705];
-    guards
-        .iter()
-        .zip(versions)
-        .zip(values)
-        .all(|((&guard, &version), &value)| value_holds(last, guard, version, value))
+    let cells = guards.iter().zip(versions).zip(values);
+    cells.fold(true, |good, ((&guard, &version), &value)| {
+        good & value_holds(last, guard, version, value)
+    })
 }
 
 /// Whether a players' table keeps the rules.

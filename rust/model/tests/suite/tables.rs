@@ -4,7 +4,7 @@ use model::broken::{bar, break_rule, rich_state, SERIAL_RULES};
 use model::numbers::{BARRED, MAX_SERIAL};
 use model::prng::Prng;
 use model::state::{Cached, State};
-use model::states::any_state;
+use model::states::{any_state, full_state};
 use model::table_rules::{TableError, TableRule};
 use model::tables::*;
 
@@ -240,6 +240,20 @@ fn round_trip() {
         let (store, players) = tables_of(&state);
         assert_eq!(decode(&store, &players), Ok(state));
     }
+}
+
+/// The state that leaves no word unused: none that may be 0 is, but the first interval's start and
+/// fields of requests.
+#[test]
+fn full() {
+    let state = full_state();
+    let (store, players) = tables_of(&state);
+    let used = |words: &[u32]| words.iter().all(|&word| word != 0);
+    assert!(used(&store[..INTERVAL_STARTS]) && used(&store[INTERVAL_STARTS + 1..]));
+    assert!(used(&players[EPOCHS..REQUESTS]));
+    assert!(players[REQUESTS..].chunks(12).all(|place| place[0] != 0));
+    assert_eq!(check(&store, &players), reply(0, 0, 0));
+    assert_eq!(decode(&store, &players), Ok(state));
 }
 
 /// Tables of random words that pass the check are those that encoding gives back: no second table
