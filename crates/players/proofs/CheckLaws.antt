@@ -2,12 +2,13 @@
 -- Assumes nothing.
 use mathlib.Core.Path.{_≡_, refl, sym, ap, _∙_}
 use mathlib.Core.Logic.{⊎-elim}
-use mathlib.Core.Bool.{Bool, true, false, cond, not, _&&_, _||_, and-assoc, and-true}
+use mathlib.Core.Bool.{Bool, true, false, cond, _&&_, and-assoc, and-true}
 use mathlib.Core.List.{List, _∷_}
 use Prim.Native.Nat.{ℕ, _+_, _≤_, _<_}
 use native.Mathlib.Omega.{arith}
 use native.Mathlib.Numerals.{add-one}
 use lib.Dec.{leb, eqb}
+use lib.Bits.{bitOr}
 use lib.ListN.{length, getD, take, drop, drop-of-length-le, length-drop}
 use lib.Seq.{drop-cons, getD-take, getD-drop, length-take-le}
 use borrow.Author.Tests.{eq-eqb, ne-eqb, le-leb, lt-leb, lt-ltb, eqb-true}
@@ -15,6 +16,7 @@ use Rattle.store.specs.Model.{fresh as fresh-store}
 use Rattle.store.specs.Table.{at-most, tableOf as store-table, valid as valid-store}
 use Rattle.store.specs.Calls.{reply, checked as checked-store, done as stored-as, Done as StoreDone, made-fresh as store-made}
 use Rattle.store.specs.declared.Reply.{Reply}
+use Rattle.store.proofs.Bits.{none-gathered}
 use Rattle.requests.specs.Region.{valid as valid-requests}
 use Rattle.requests.proofs.Basics.{decide, both-left, both-right, cond-elim}
 use Rattle.players.specs.Replies.{refusal}
@@ -27,15 +29,19 @@ use Rattle.players.proofs.RunningNumbers.{stands-number, stands-entry}
 -- ---- cached values
 
 -- the tests of a cached value, as the code joins them and as the rule does
-regroup : (a b c d e : Bool) → (a && b && (not c || d && e)) ≡ (a && (b && cond c (d && e) true))
-regroup true true true d e = refl
-regroup true true false d e = refl
-regroup true false c d e = refl
-regroup false b c d e = refl
+regroup : (a b c d : Bool) → (a && b && cond c d true) ≡ (a && (b && cond c d true))
+regroup a b c d = and-assoc a b (cond c d true)
 
-pub value-is : (n g v x : ℕ) → (leb g n && leb v n && (not (eqb g 0) || eqb v 0 && eqb x 0)) ≡ cached-holds n g v x
+-- what stands beside a guard of 0 is 0
+unguarded-none : (g v x : ℕ) → eqb (cond (eqb g 0) (bitOr v x) 0) 0 ≡ cond (eqb g 0) (eqb v 0 && eqb x 0) true
+unguarded-none g v x = cond-elim (λ (y : ℕ). eqb y 0 ≡ cond (eqb g 0) (eqb v 0 && eqb x 0) true) (eqb g 0) (bitOr v x) 0 (λ b. rw b (none-gathered v x)) (λ b. rw b)
+
+-- a and b are the bits that tell of the guard and the version, u those that tell of what stands beside no guard
+pub flaw-is : (n g v x a b u : ℕ) → eqb a 0 ≡ leb g n → eqb b 0 ≡ leb v n → u ≡ cond (eqb g 0) (bitOr v x) 0 → eqb (bitOr (bitOr a b) u) 0 ≡ cached-holds n g v x
 unfolding cached-holds
-value-is n g v x = regroup (leb g n) (leb v n) (eqb g 0) (eqb v 0) (eqb x 0)
+flaw-is n g v x a b u e f h =
+    none-gathered (bitOr a b) u
+    ∙ rw (none-gathered a b, e, f, h, unguarded-none g v x) (regroup (leb g n) (leb v n) (eqb g 0) (eqb v 0 && eqb x 0))
 
 drop-next : (l : List ℕ) (i : ℕ) → i < length l → drop i l ≡ getD l i 0 ∷ drop (i + 1) l
 drop-next l i h = rw (add-one, drop-cons l i 0)
@@ -69,12 +75,12 @@ module _ (t : List ℕ) (l : length t ≡ players-words) (i : ℕ) where
       unfolding cached-at
       cached-at-is = rw (cell-is guards-at, cell-is versions-at, cell-is values-at)
 
-      -- b is what the cells before gave, and r what this one gives
-      pub values-turn : (b r : Bool) → r ≡ cached-at t p e → (b && r && rest-holds t (i + 1)) ≡ (b && rest-holds t i)
+      -- a are the bits that tell of the cells before, and b those that tell of this one
+      pub values-turn : (a b : ℕ) → eqb b 0 ≡ cached-at t p e → (eqb (bitOr a b) 0 && rest-holds t (i + 1)) ≡ (eqb a 0 && rest-holds t i)
       unfolding cached-all
-      values-turn b r f =
-          and-assoc b r (rest-holds t (i + 1))
-          ∙ rw (f, cached-at-is, column-next guards-at (omega arith), column-next versions-at (omega arith), column-next values-at (omega arith))
+      values-turn a b f =
+          rw (none-gathered a b, f, cached-at-is, column-next guards-at (omega arith), column-next versions-at (omega arith), column-next values-at (omega arith))
+          (and-assoc (eqb a 0) _ (rest-holds t (i + 1)))
 
   pub values-end : (b : Bool) → cell-count ≤ i → (b && rest-holds t i) ≡ b
   unfolding cached-all

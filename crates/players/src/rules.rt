@@ -1,23 +1,45 @@
 // The rules of the players' table, tested.
 use crate::layout;
 ghost use mathlib.Core.Path.{_≡_};
+ghost use mathlib.Core.Bool.{cond};
 ghost use Prim.Native.Nat.{_<_};
+ghost use lib.Dec.{leb, eqb};
 ghost use lib.ListN.{length, getD, take, drop};
 ghost use Rattle.players.specs.Table.{players-words, Stands, cached-holds, cached-at, cached-all, valid-players, cell-count, guards-at, versions-at, values-at};
 
-// Whether a cached value keeps the rules.
-fn value_holds(last: u32, guard: u32, version: u32, value: u32) -> bool
-    ensures { λ r. ⌜ r ≡ cached-holds last guard version value ⌝ }
+// All bits where a word is above `n`, else none.
+fn above(word: u32, n: u32) -> u32
+    ensures { λ r. ⌜ eqb r 0 ≡ leb word n ⌝ }
 {
-    (guard <= last) & (version <= last) & ((guard != 0) | ((version == 0) & (value == 0)))
+    if word > n {
+        return u32::MAX;
+    }
+    0
 }
 
-// Whether what the player has cached for the entry, the cell with the running number `i`, keeps the rules.
-fn cell_holds(players: &[u32], player: usize, entry: usize, i: usize) -> bool
-    requires { ⌜ (length (now players) ≡ players-words) × (i < cell-count) × Stands i player entry ⌝ }
-    ensures { λ r. ⌜ r ≡ cached-at (now (players .entry)) player entry ⌝ }
+// The bits that stand beside a guard of 0, where none may stand.
+fn unguarded(guard: u32, bits: u32) -> u32
+    ensures { λ r. ⌜ r ≡ cond (eqb guard 0) bits 0 ⌝ }
 {
-    value_holds(
+    if guard == 0 {
+        return bits;
+    }
+    0
+}
+
+// No bits where a cached value keeps the rules, else some.
+fn flaw(last: u32, guard: u32, version: u32, value: u32) -> u32
+    ensures { λ r. ⌜ eqb r 0 ≡ cached-holds last guard version value ⌝ }
+{
+    above(guard, last) | above(version, last) | unguarded(guard, version | value)
+}
+
+// No bits where the value that the player has cached for the entry keeps the rules, else some. It is the cell with the running number `i`.
+fn cell_flaw(players: &[u32], player: usize, entry: usize, i: usize) -> u32
+    requires { ⌜ (length (now players) ≡ players-words) × (i < cell-count) × Stands i player entry ⌝ }
+    ensures { λ r. ⌜ eqb r 0 ≡ cached-at (now (players .entry)) player entry ⌝ }
+{
+    flaw(
         players[layout::LAST],
         players[layout::CACHED_GUARDS + i],
         players[layout::CACHED_VERSIONS + i],
@@ -31,12 +53,12 @@ fn values_hold(players: &[u32]) -> bool
     requires { ⌜ length (now players) ≡ players-words ⌝ }
     ensures { λ r. ⌜ r ≡ cached-all (getD (now (players .entry)) 0 0) (take cell-count (drop guards-at (now (players .entry)))) (take cell-count (drop versions-at (now (players .entry)))) (take cell-count (drop values-at (now (players .entry)))) ⌝ }
 {
-    let mut good = true;
+    let mut flaws: u32 = 0;
     let mut player = 0;
     let mut entry = 0;
     let mut i = 0;
     while i < layout::CELLS {
-        good = good & cell_holds(players, player, entry, i);
+        flaws = flaws | cell_flaw(players, player, entry, i);
         i += 1;
         entry += 1;
         if entry == layout::ENTRIES {
@@ -44,7 +66,7 @@ fn values_hold(players: &[u32]) -> bool
             player += 1;
         }
     }
-    good
+    flaws == 0
 }
 
 // Whether a players' table keeps the rules.

@@ -1,7 +1,7 @@
 -- The places of a region: what is read of one, the tests of its words, and a walk over all, a case for each way that the code goes.
 -- Assumes nothing.
 use mathlib.Core.Path.{_≡_, ap, _∙_}
-use mathlib.Core.Bool.{Bool, true, false, _&&_}
+use mathlib.Core.Bool.{Bool, true, false, _&&_, and-assoc}
 use mathlib.Core.List.{List}
 use Prim.Native.Nat.{ℕ, suc, _+_, _-_, _*_, _%_, _≤_, _<_}
 use native.Mathlib.Nat.{add-zero}
@@ -59,46 +59,14 @@ module _ (w : List ℕ) (k : ℕ) where
 
   -- ---- the words fit
 
-  abbrev fit : Bool
-  fit = words-fit (drop (k * 12) w)
-
   at : (i : ℕ) → getD (drop (k * 12) w) i 0 ≡ word i
   at i = getD-drop (k * 12) w i 0
 
-  pub unfit-player : loader < word 1 → false ≡ fit
+  pub fit-is :
+      (leb (word 1) loader && leb (word 2) 255 && leb (word 3) 255 && leb (word 4) 65535 && leb (word 7) 1 && leb (word 8) 1 && leb (word 9) 1)
+      ≡ words-fit (drop (k * 12) w)
   unfolding words-fit
-  unfit-player h = rw (at 1, lt-leb (word 1) loader h)
-
-  module _ (h₁ : word 1 ≤ loader) where
-    pub unfit-kind : 255 < word 2 → false ≡ fit
-    unfolding words-fit
-    unfit-kind h = rw (at 1, at 2, le-leb (word 1) loader h₁, lt-leb (word 2) 255 h)
-
-    module _ (h₂ : word 2 ≤ 255) where
-      pub unfit-low : 255 < word 3 → false ≡ fit
-      unfolding words-fit
-      unfit-low h = rw (at 1, at 2, at 3, le-leb (word 1) loader h₁, le-leb (word 2) 255 h₂, lt-leb (word 3) 255 h)
-
-      module _ (h₃ : word 3 ≤ 255) where
-        pub unfit-high : 65535 < word 4 → false ≡ fit
-        unfolding words-fit
-        unfit-high h = rw (at 1, at 2, at 3, at 4, le-leb (word 1) loader h₁, le-leb (word 2) 255 h₂, le-leb (word 3) 255 h₃, lt-leb (word 4) 65535 h)
-
-        module _ (h₄ : word 4 ≤ 65535) where
-          pub unfit-overlapped : 1 < word 7 → false ≡ fit
-          unfolding words-fit
-          unfit-overlapped h = rw (at 1, at 2, at 3, at 4, at 7, le-leb (word 1) loader h₁, le-leb (word 2) 255 h₂, le-leb (word 3) 255 h₃, le-leb (word 4) 65535 h₄, lt-leb (word 7) 1 h)
-
-          module _ (h₇ : word 7 ≤ 1) where
-            pub unfit-delivered : 1 < word 8 → false ≡ fit
-            unfolding words-fit
-            unfit-delivered h =
-                rw (at 1, at 2, at 3, at 4, at 7, at 8, le-leb (word 1) loader h₁, le-leb (word 2) 255 h₂, le-leb (word 3) 255 h₃, le-leb (word 4) 65535 h₄, le-leb (word 7) 1 h₇, lt-leb (word 8) 1 h)
-
-            pub fit-abandoned : word 8 ≤ 1 → leb (word 9) 1 ≡ fit
-            unfolding words-fit
-            fit-abandoned h₈ =
-                rw (at 1, at 2, at 3, at 4, at 7, at 8, at 9, le-leb (word 1) loader h₁, le-leb (word 2) 255 h₂, le-leb (word 3) 255 h₃, le-leb (word 4) 65535 h₄, le-leb (word 7) 1 h₇, le-leb (word 8) 1 h₈)
+  fit-is = rw (at 1, at 2, at 3, at 4, at 7, at 8, at 9) (simp and-assoc)
 
 -- ---- the walk
 

@@ -133,25 +133,13 @@ fn words_fit(region: &[u32], k: usize) -> bool
     ensures { λ b. ⌜ b ≡ words-fit (drop (k * 12) (now (region .entry))) ⌝ }
 {
     let b = k * layout::SIZE;
-    if region[b + layout::PLAYER] > layout::LOADER as u32 {
-        return false;
-    }
-    if region[b + layout::KIND] > 255 {
-        return false;
-    }
-    if region[b + layout::LOW] > 255 {
-        return false;
-    }
-    if region[b + layout::HIGH] > 65535 {
-        return false;
-    }
-    if region[b + layout::OVERLAPPED] > 1 {
-        return false;
-    }
-    if region[b + layout::DELIVERED] > 1 {
-        return false;
-    }
-    region[b + layout::ABANDONED] <= 1
+    (region[b + layout::PLAYER] <= layout::LOADER as u32)
+        & (region[b + layout::KIND] <= 255)
+        & (region[b + layout::LOW] <= 255)
+        & (region[b + layout::HIGH] <= 65535)
+        & (region[b + layout::OVERLAPPED] <= 1)
+        & (region[b + layout::DELIVERED] <= 1)
+        & (region[b + layout::ABANDONED] <= 1)
 }
 
 // Whether the 64 places keep the rules.
@@ -165,7 +153,7 @@ pub(crate) fn places_hold(region: &[u32], last: u32) -> bool
         let at = k * layout::SIZE;
         let next = region[at];
         if next == 0 {
-            return words::at_most(&region[at..], 0);
+            return words::are_zero(&region[at..]);
         }
         if next <= serial {
             return false;

@@ -7,7 +7,7 @@ use mathlib.Core.List.{List, [], _∷_}
 use Prim.Native.Nat.{ℕ, zero, suc, _+_, _≤_, _<_}
 use native.Mathlib.Omega.{arith}
 use lib.Dec.{T, leb, eqb}
-use borrow.Author.Tests.{le-leb, lt-leb, leb-true, ne-eqb, eqb-true}
+use borrow.Author.Tests.{le-leb, leb-true, ne-eqb, eqb-true}
 use Rattle.store.specs.Model.{serials, open-guard, barred, matches}
 use Rattle.store.specs.Table.{listed, guard-holds}
 use Rattle.store.proofs.Bools.{decide, is-true, and-both}
@@ -23,15 +23,6 @@ open-matches c = ⊎-elim (λ h. let z = eqb-true c barred h in rw (h, ne-eqb c 
 -- ‘barred, that matches nothing’
 pub barred-matches-nothing : (carried : ℕ) → matches carried barred ≡ false
 barred-matches-nothing c = ⊎-elim (λ h. rw h) (λ h. rw h) (decide (eqb c barred))
-
--- as the code tests it
-pub issued-is : (n g : ℕ) → g ≤ n → true ≡ guard-holds n g
-unfolding guard-holds
-issued-is n g h = rw (le-leb g n h)
-
-pub unissued-is : (n g : ℕ) → n < g → eqb g barred ≡ guard-holds n g
-unfolding guard-holds
-unissued-is n g h = rw (lt-leb g n h)
 
 -- a serial that was issued
 pub issued-holds : (n g : ℕ) → g ≤ n → T (guard-holds n g)

@@ -18,6 +18,19 @@ pub fn at_most(part: &[u32], n: u32) -> bool
     good
 }
 
+// Whether each word of `part` is 0. The bits that stand in any of them are gathered.
+pub fn are_zero(part: &[u32]) -> bool
+    ensures { λ r. ⌜ r ≡ at-most 0 (now (part .entry)) ⌝ }
+{
+    let mut bits: u32 = 0;
+    let mut i = 0;
+    while i < part.len() {
+        bits = bits | part[i];
+        i += 1;
+    }
+    bits == 0
+}
+
 // Makes each word of `part` be `v`.
 pub fn fill(part: &mut [u32], v: u32)
     ensures { λ _. ⌜ now (part .exit) ≡ replicate (length (now (part .entry))) v ⌝ }

@@ -1,10 +1,11 @@
 -- `players::rules::values_hold` meets its contract. The loop's invariant: the running number stands for the player and the entry that are
--- carried along; and what the cells before gave, with the test of the rest, is the test of the whole.
+-- carried along; and that no bit tells of the cells before, with the test of the rest, is the test of the whole.
 -- Assumes nothing.
 use mathlib.Core.Path.{_≡_, refl, sym, _∙_}
 use mathlib.Core.Bool.{_&&_}
 use Prim.Native.Nat.{_≤_, _-_}
 use native.Mathlib.Omega.{arith}
+use lib.Dec.{eqb}
 use Rattle.players.specs.Table.{cell-count, Stands}
 use Rattle.players.proofs.RunningNumbers.{stands-first, stands-along, stands-over}
 use Rattle.players.proofs.CheckLaws.{rest-holds, values-turn, values-end}
@@ -12,17 +13,17 @@ use Rattle.players.proofs.rules.values_hold.Statement.{statement}
 use Rattle.players.proofs.rules.values_hold.Tie as tie
 
 abbrev Inv-loop : tie.InvT-loop
-Inv-loop players good₀ player₀ entry₀ i₀ good player entry i =
-    (i ≤ cell-count) × Stands i player entry × ((good && rest-holds players i) ≡ rest-holds players 0)
+Inv-loop players flaws₀ player₀ entry₀ i₀ flaws player entry i =
+    (i ≤ cell-count) × Stands i player entry × ((eqb flaws 0 && rest-holds players i) ≡ rest-holds players 0)
 
 abbrev μ-loop : tie.MeasureT-loop
-μ-loop players good₀ player₀ entry₀ i₀ good player entry i = cell-count - i
+μ-loop players flaws₀ player₀ entry₀ i₀ flaws player entry i = cell-count - i
 
 loop-holds : tie.Need-loop-holds Inv-loop μ-loop
 loop-holds c = (omega arith, stands-first, refl)
 
-cell-holds-requires : tie.Need-cell-holds-requires Inv-loop μ-loop
-cell-holds-requires c κs = (c .before .before .before .pre, omega arith, c .before .loop .inv .1)
+cell-flaw-requires : tie.Need-cell-flaw-requires Inv-loop μ-loop
+cell-flaw-requires c κs = (c .before .before .before .pre, omega arith, c .before .loop .inv .1)
 
 add-i : tie.Need-add-i Inv-loop μ-loop
 add-i c = omega arith
@@ -44,7 +45,7 @@ loop-again c =
     let w = l .loop .inv .1 in (
       omega arith,
       stands-over (l .loop .i) (l .loop .player) (l .loop .entry) w (c .if1 .taken),
-      values-turn (s .args .players .now) (s .pre) (l .loop .i) (omega arith) (l .loop .player) (l .loop .entry) w (l .loop .good) _ (c .before .cell-holds .ensures) ∙ l .loop .inv .2,
+      values-turn (s .args .players .now) (s .pre) (l .loop .i) (omega arith) (l .loop .player) (l .loop .entry) w (l .loop .flaws) (c .before .cell-flaw .result) (c .before .cell-flaw .ensures) ∙ l .loop .inv .2,
     )
 
 loop-less-2 : tie.Need-loop-less-2 Inv-loop μ-loop
@@ -58,14 +59,14 @@ loop-again-2 c =
     let w = l .loop .inv .1 in (
       omega arith,
       stands-along (l .loop .i) (l .loop .player) (l .loop .entry) w (c .if1 .left),
-      values-turn (s .args .players .now) (s .pre) (l .loop .i) (omega arith) (l .loop .player) (l .loop .entry) w (l .loop .good) _ (c .before .cell-holds .ensures) ∙ l .loop .inv .2,
+      values-turn (s .args .players .now) (s .pre) (l .loop .i) (omega arith) (l .loop .player) (l .loop .entry) w (l .loop .flaws) (c .before .cell-flaw .result) (c .before .cell-flaw .ensures) ∙ l .loop .inv .2,
     )
 
 returns : tie.Need-returns Inv-loop μ-loop
 returns c =
     let l = c .before in
     let s = l .before .before in
-    sym (values-end (s .args .players .now) (s .pre) (l .loop .i) (l .loop .good) (omega arith)) ∙ l .loop .inv .2
+    sym (values-end (s .args .players .now) (s .pre) (l .loop .i) (eqb (l .loop .flaws) 0) (omega arith)) ∙ l .loop .inv .2
 
 pub values-hold-spec : {M : Type 1} → statement M
 values-hold-spec =
@@ -74,7 +75,7 @@ values-hold-spec =
     Inv-loop
     μ-loop
     loop-holds
-    cell-holds-requires
+    cell-flaw-requires
     add-i
     add-entry
     add-player

@@ -31,25 +31,25 @@ mul-next c = search needs
 shared-slice-read-next : tie.Need-shared-slice-read-next Inv-loop μ-loop
 shared-slice-read-next c = search needs
 
-mul-at-most : tie.Need-mul-at-most Inv-loop μ-loop
-mul-at-most c = search needs
+mul-are-zero : tie.Need-mul-are-zero Inv-loop μ-loop
+mul-are-zero c = search needs
 
-sub-at-most : tie.Need-sub-at-most Inv-loop μ-loop
-sub-at-most c = search needs
+sub-are-zero : tie.Need-sub-are-zero Inv-loop μ-loop
+sub-are-zero c = search needs
 
-part-at-most-start : tie.Need-part-at-most-start Inv-loop μ-loop
-part-at-most-start c = search needs
+part-are-zero-start : tie.Need-part-are-zero-start Inv-loop μ-loop
+part-are-zero-start c = search needs
 
-part-at-most-end : tie.Need-part-at-most-end Inv-loop μ-loop
-part-at-most-end c = search needs
+part-are-zero-end : tie.Need-part-are-zero-end Inv-loop μ-loop
+part-are-zero-end c = search needs
 
-at-most-requires : tie.Need-at-most-requires Inv-loop μ-loop
-at-most-requires c κs = search needs
+are-zero-requires : tie.Need-are-zero-requires Inv-loop μ-loop
+are-zero-requires c κs = search needs
 
 returns : tie.Need-returns Inv-loop μ-loop
 returns c =
     let a = c .before .before .before .before .before .before .before .args in
-    c .at-most .ensures ∙ ap (at-most 0) (rest (a .region .now) (c .before .before .before .before .before .loop .k * 12)) ∙ sym (walk-unused (a .region .now) _ _ _ (c .before .before .before .before .loop-test .taken) (c .before .before .if1 .taken)) ∙ c .before .before .before .before .before .loop .inv .1
+    c .are-zero .ensures ∙ ap (at-most 0) (rest (a .region .now) (c .before .before .before .before .before .loop .k * 12)) ∙ sym (walk-unused (a .region .now) _ _ _ (c .before .before .before .before .loop-test .taken) (c .before .before .if1 .taken)) ∙ c .before .before .before .before .before .loop .inv .1
 
 returns-2 : tie.Need-returns-2 Inv-loop μ-loop
 returns-2 c =
@@ -99,11 +99,11 @@ places-hold-spec =
     mul-at
     mul-next
     shared-slice-read-next
-    mul-at-most
-    sub-at-most
-    part-at-most-start
-    part-at-most-end
-    at-most-requires
+    mul-are-zero
+    sub-are-zero
+    part-are-zero-start
+    part-are-zero-end
+    are-zero-requires
     returns
     returns-2
     words-fit-requires

@@ -1,14 +1,13 @@
--- `store::rules::guard_holds` meets its contract: a case at each return.
+-- `store::rules::guard_holds` meets its contract.
 -- Assumes nothing.
-use Rattle.store.proofs.GuardRules.{issued-is, unissued-is}
+use mathlib.Core.Path.{refl}
+use Rattle.store.specs.Table.{guard-holds}
 use Rattle.store.proofs.rules.guard_holds.Statement.{statement}
 use Rattle.store.proofs.rules.guard_holds.Tie as tie
 
 returns : tie.Need-returns
-returns c = issued-is (c .before .args .last) (c .before .args .guard) (c .if1 .taken)
-
-returns-2 : tie.Need-returns-2
-returns-2 c = unissued-is (c .before .args .last) (c .before .args .guard) (c .if1 .left)
+unfolding guard-holds
+returns c = refl
 
 pub guard-holds-spec : {M : Type 1} → statement M
-guard-holds-spec = tie.close (tie.spec returns returns-2)
+guard-holds-spec = tie.close (tie.spec returns)
