@@ -13,10 +13,10 @@ use lib.ListN.{length, getD, take, drop, drop-of-length-le, length-drop}
 use lib.Seq.{drop-cons, getD-take, getD-drop, length-take-le}
 use borrow.Author.Tests.{eq-eqb, ne-eqb, le-leb, lt-leb, lt-ltb, eqb-true}
 use Rattle.store.specs.Model.{fresh as fresh-store}
-use Rattle.store.specs.Table.{at-most, tableOf as store-table, valid as valid-store}
+use Rattle.store.specs.Table.{at-most, above, tableOf as store-table, valid as valid-store}
 use Rattle.store.specs.Calls.{reply, checked as checked-store, done as stored-as, Done as StoreDone, made-fresh as store-made}
 use Rattle.store.specs.declared.Reply.{Reply}
-use Rattle.store.proofs.Bits.{none-gathered}
+use Rattle.store.proofs.Bits.{none-gathered, above-none}
 use Rattle.requests.specs.Region.{valid as valid-requests}
 use Rattle.requests.proofs.Basics.{decide, both-left, both-right, cond-elim}
 use Rattle.players.specs.Replies.{refusal}
@@ -37,11 +37,11 @@ unguarded-none : (g v x : ℕ) → eqb (cond (eqb g 0) (bitOr v x) 0) 0 ≡ cond
 unguarded-none g v x = cond-elim (λ (y : ℕ). eqb y 0 ≡ cond (eqb g 0) (eqb v 0 && eqb x 0) true) (eqb g 0) (bitOr v x) 0 (λ b. rw b (none-gathered v x)) (λ b. rw b)
 
 -- a and b are the bits that tell of the guard and the version, u those that tell of what stands beside no guard
-pub flaw-is : (n g v x a b u : ℕ) → eqb a 0 ≡ leb g n → eqb b 0 ≡ leb v n → u ≡ cond (eqb g 0) (bitOr v x) 0 → eqb (bitOr (bitOr a b) u) 0 ≡ cached-holds n g v x
+pub flaw-is : (n g v x a b u : ℕ) → a ≡ above n g → b ≡ above n v → u ≡ cond (eqb g 0) (bitOr v x) 0 → eqb (bitOr (bitOr a b) u) 0 ≡ cached-holds n g v x
 unfolding cached-holds
 flaw-is n g v x a b u e f h =
     none-gathered (bitOr a b) u
-    ∙ rw (none-gathered a b, e, f, h, unguarded-none g v x) (regroup (leb g n) (leb v n) (eqb g 0) (eqb v 0 && eqb x 0))
+    ∙ rw (none-gathered a b, e, f, h, above-none n g, above-none n v, unguarded-none g v x) (regroup (leb g n) (leb v n) (eqb g 0) (eqb v 0 && eqb x 0))
 
 drop-next : (l : List ℕ) (i : ℕ) → i < length l → drop i l ≡ getD l i 0 ∷ drop (i + 1) l
 drop-next l i h = rw (add-one, drop-cons l i 0)

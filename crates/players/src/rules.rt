@@ -1,21 +1,12 @@
 // The rules of the players' table, tested.
 use crate::layout;
+use store::words;
 ghost use mathlib.Core.Path.{_≡_};
 ghost use mathlib.Core.Bool.{cond};
 ghost use Prim.Native.Nat.{_<_};
-ghost use lib.Dec.{leb, eqb};
+ghost use lib.Dec.{eqb};
 ghost use lib.ListN.{length, getD, take, drop};
 ghost use Rattle.players.specs.Table.{players-words, Stands, cached-holds, cached-at, cached-all, valid-players, cell-count, guards-at, versions-at, values-at};
-
-// All bits where a word is above `n`, else none.
-fn above(word: u32, n: u32) -> u32
-    ensures { λ r. ⌜ eqb r 0 ≡ leb word n ⌝ }
-{
-    if word > n {
-        return u32::MAX;
-    }
-    0
-}
 
 // The bits that stand beside a guard of 0, where none may stand.
 fn unguarded(guard: u32, bits: u32) -> u32
@@ -31,7 +22,7 @@ fn unguarded(guard: u32, bits: u32) -> u32
 fn flaw(last: u32, guard: u32, version: u32, value: u32) -> u32
     ensures { λ r. ⌜ eqb r 0 ≡ cached-holds last guard version value ⌝ }
 {
-    above(guard, last) | above(version, last) | unguarded(guard, version | value)
+    words::above(guard, last) | words::above(version, last) | unguarded(guard, version | value)
 }
 
 // No bits where the value that the player has cached for the entry keeps the rules, else some. It is the cell with the running number `i`.
@@ -78,13 +69,13 @@ pub(crate) fn players_hold(players: &[u32]) -> bool
     if last > layout::SERIALS {
         return false;
     }
-    if !store::words::at_most(&players[layout::OWNERS..layout::EPOCHS], layout::LAST_OWNER) {
+    if !words::at_most(&players[layout::OWNERS..layout::EPOCHS], layout::LAST_OWNER) {
         return false;
     }
-    if !store::words::at_most(&players[layout::EPOCHS..layout::HELD], last) {
+    if !words::at_most(&players[layout::EPOCHS..layout::HELD], last) {
         return false;
     }
-    if !store::words::at_most(&players[layout::HELD..layout::CACHED_GUARDS], last) {
+    if !words::at_most(&players[layout::HELD..layout::CACHED_GUARDS], last) {
         return false;
     }
     if !values_hold(players) {

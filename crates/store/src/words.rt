@@ -3,22 +3,33 @@ ghost use mathlib.Core.Path.{_≡_};
 ghost use mathlib.Core.Bool.{cond};
 ghost use lib.Dec.{eqb};
 ghost use lib.ListN.{length, replicate};
-ghost use Rattle.store.specs.Table.{at-most};
+ghost use Rattle.store.specs.Table.{at-most, above};
 
-// Whether each word of `part` is at most `n`. No word ends the loop early, so that the compiler can test several at once.
+// All bits where the word is above `n`, else none.
+pub fn above(word: u32, n: u32) -> u32
+    ensures { λ r. ⌜ r ≡ above n word ⌝ }
+{
+    if word > n {
+        return u32::MAX;
+    }
+    0
+}
+
+// Whether each word of `part` is at most `n`. In this test and the next, bits are gathered and no word ends the loop early, so that the
+// compiler can test several at once.
 pub fn at_most(part: &[u32], n: u32) -> bool
     ensures { λ r. ⌜ r ≡ at-most n (now (part .entry)) ⌝ }
 {
-    let mut good = true;
+    let mut bits: u32 = 0;
     let mut i = 0;
     while i < part.len() {
-        good = good & (part[i] <= n);
+        bits = bits | above(part[i], n);
         i += 1;
     }
-    good
+    bits == 0
 }
 
-// Whether each word of `part` is 0. The bits that stand in any of them are gathered.
+// Whether each word of `part` is 0.
 pub fn are_zero(part: &[u32]) -> bool
     ensures { λ r. ⌜ r ≡ at-most 0 (now (part .entry)) ⌝ }
 {

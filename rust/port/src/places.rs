@@ -142,13 +142,13 @@ fn request_holds(r: Request, last: u32) -> bool {
 
 /// Whether the words of a place fit their fields.
 fn words_fit(words: &[u32]) -> bool {
-    words[1] <= u32::from(LOADER)
-        && words[2] <= 255
-        && words[3] <= 255
-        && words[4] <= 65535
-        && words[7] <= 1
-        && words[8] <= 1
-        && words[9] <= 1
+    (words[1] <= u32::from(LOADER))
+        & (words[2] <= 255)
+        & (words[3] <= 255)
+        & (words[4] <= 65535)
+        & (words[7] <= 1)
+        & (words[8] <= 1)
+        & (words[9] <= 1)
 }
 
 /// Whether the 64 places keep the rules.
@@ -158,9 +158,10 @@ pub fn places_hold(region: &[u32], last: u32) -> bool {
         let rest = &region[k * 12..];
         let next = rest[0];
         if next == 0 {
-            return crate::words::at_most(rest, 0);
+            return crate::words::are_zero(rest);
         }
-        if next <= serial || !words_fit(rest) || !request_holds(request_at(region, k), last) {
+        if next <= serial || !words_fit(&rest[..12]) || !request_holds(request_at(region, k), last)
+        {
             return false;
         }
         serial = next;

@@ -2,7 +2,7 @@
 
 use calls::Reply;
 
-use crate::words::at_most;
+use crate::words::{above, at_most};
 use crate::{region, store, PLAYERS, SERIALS, STORE};
 
 /// Makes both tables fresh.
@@ -15,21 +15,31 @@ pub fn fresh(store: &mut [u32], players: &mut [u32]) -> Reply {
     store::fresh(store)
 }
 
-/// Whether a cached value keeps the rules.
-fn value_holds(last: u32, guard: u32, version: u32, value: u32) -> bool {
-    (guard <= last) & (version <= last) & ((guard != 0) | ((version == 0) & (value == 0)))
+/// The bits that stand beside a guard of 0, where none may stand.
+fn unguarded(guard: u32, bits: u32) -> u32 {
+    if guard == 0 {
+        bits
+    } else {
+        0
+    }
 }
 
-/// Whether each cached value keeps the rules. The library carries player and entry along, which
-/// leave nothing in its machine code; here they would be unused.
+/// No bits where a cached value keeps the rules, else some.
+fn flaw(last: u32, guard: u32, version: u32, value: u32) -> u32 {
+    above(guard, last) | above(version, last) | unguarded(guard, version | value)
+}
+
+/// Whether each cached value keeps the rules. The library carries player and entry along, which leave
+/// nothing in its machine code; here they would be unused.
 fn values_hold(players: &[u32]) -> bool {
     let last = players[0];
     let (guards, versions) = (&players[2561..4609], &players[4609..6657]);
     let values = &players[6657..8705];
     let cells = guards.iter().zip(versions).zip(values);
-    cells.fold(true, |good, ((&guard, &version), &value)| {
-        good & value_holds(last, guard, version, value)
-    })
+    let flaws = cells.fold(0, |flaws, ((&guard, &version), &value)| {
+        flaws | flaw(last, guard, version, value)
+    });
+    flaws == 0
 }
 
 /// Whether a players' table keeps the rules.

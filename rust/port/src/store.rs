@@ -2,7 +2,7 @@
 
 use calls::{Range, Reply};
 
-use crate::words::at_most;
+use crate::words::{are_zero, at_most};
 use crate::{answer, BARRED, SERIALS, STORE};
 
 /// Makes the table of a fresh store.
@@ -17,28 +17,35 @@ pub fn fresh(store: &mut [u32]) -> Reply {
 
 /// Whether all places from `k` on are 0.
 fn unused(starts: &[u32], guards: &[u32], k: usize) -> bool {
-    at_most(&starts[k..], 0) && at_most(&guards[k..], 0)
+    are_zero(&starts[k..]) & are_zero(&guards[k..])
+}
+
+/// How many places are used: all before the first one, after place 0, whose start is 0.
+fn used(starts: &[u32]) -> usize {
+    let behind = starts.iter().skip(1).position(|&start| start == 0);
+    behind.map_or(starts.len(), |at| at + 1)
 }
 
 /// Whether a guard is a serial up to `last`, or 0, or barred.
 fn guard_holds(guard: u32, last: u32) -> bool {
-    guard <= last || guard == BARRED
+    (guard <= last) | (guard == BARRED)
+}
+
+/// Whether an interval may follow another one.
+fn follows(start: u32, guard: u32, next: u32, other: u32, last: u32) -> bool {
+    (start < next) & (next < 256) & (other != guard) & guard_holds(other, last)
 }
 
 /// Whether the intervals after the first rise, differ from their neighbours and have guards that hold.
 fn rising_holds(starts: &[u32], guards: &[u32], last: u32) -> bool {
-    let (mut start, mut guard) = (0, guards[0]);
-    for k in 1..256 {
-        let (next, other) = (starts[k], guards[k]);
-        if next == 0 {
-            return unused(starts, guards, k);
-        }
-        if next <= start || next >= 256 || other == guard || !guard_holds(other, last) {
-            return false;
-        }
-        (start, guard) = (next, other);
-    }
-    true
+    let n = used(starts);
+    let (before, behind) = (0..n - 1, 1..n);
+    let intervals = starts[before.clone()].iter().zip(&guards[before]);
+    let pairs = intervals.zip(starts[behind.clone()].iter().zip(&guards[behind]));
+    let good = pairs.fold(true, |good, ((&start, &guard), (&next, &other))| {
+        good & follows(start, guard, next, other, last)
+    });
+    good & unused(starts, guards, n)
 }
 
 fn intervals_hold(starts: &[u32], guards: &[u32], last: u32) -> bool {

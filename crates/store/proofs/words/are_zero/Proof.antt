@@ -1,5 +1,5 @@
--- `store::words::are_zero` meets its contract. The loop's invariant: that the words before have no bit, and the test of the rest, is the test of
--- the whole.
+-- `store::words::are_zero` meets its contract. The loop's invariant: that no bit was gathered from the words before, and the test of the rest, is
+-- the test of the whole.
 -- Assumes nothing.
 use mathlib.Core.Path.{_≡_, refl, sym, _∙_}
 use mathlib.Core.Bool.{_&&_}
@@ -40,7 +40,7 @@ loop-again c =
     (omega arith, zero-turn _ _ (l .loop .bits) (c .before .loop-test .taken) ∙ l .loop .inv .1)
 
 returns : tie.Need-returns Inv-loop μ-loop
-returns c = sym (at-most-end _ _ _ (eqb (c .before .loop .bits) 0) (c .loop-test .left)) ∙ c .before .loop .inv .1
+returns c = sym (at-most-end _ _ (c .before .loop .bits) 0 (c .loop-test .left)) ∙ c .before .loop .inv .1
 
 pub are-zero-spec : {M : Type 1} → statement M
 are-zero-spec =
