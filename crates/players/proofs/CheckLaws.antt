@@ -6,17 +6,17 @@ use mathlib.Core.Bool.{Bool, true, false, cond, _&&_, and-assoc, and-true}
 use mathlib.Core.List.{List, _∷_}
 use Prim.Native.Nat.{ℕ, _+_, _≤_, _<_}
 use native.Mathlib.Omega.{arith}
-use native.Mathlib.Numerals.{add-one}
 use lib.Dec.{leb, eqb}
 use lib.Bits.{bitOr}
 use lib.ListN.{length, getD, take, drop, drop-of-length-le, length-drop}
-use lib.Seq.{drop-cons, getD-take, getD-drop, length-take-le}
+use lib.Seq.{getD-take, getD-drop, length-take-le}
 use borrow.Author.Tests.{eq-eqb, ne-eqb, le-leb, lt-leb, lt-ltb, eqb-true}
 use Rattle.store.specs.Model.{fresh as fresh-store}
 use Rattle.store.specs.Table.{at-most, above, tableOf as store-table, valid as valid-store}
 use Rattle.store.specs.Calls.{reply, checked as checked-store, done as stored-as, Done as StoreDone, made-fresh as store-made}
 use Rattle.store.specs.declared.Reply.{Reply}
 use Rattle.store.proofs.Bits.{none-gathered, above-none}
+use Rattle.store.proofs.Turns.{drop-next}
 use Rattle.requests.specs.Region.{valid as valid-requests}
 use Rattle.requests.proofs.Basics.{decide, both-left, both-right, cond-elim}
 use Rattle.players.specs.Replies.{refusal}
@@ -28,10 +28,6 @@ use Rattle.players.proofs.RunningNumbers.{stands-number, stands-entry}
 
 -- ---- cached values
 
--- the tests of a cached value, as the code joins them and as the rule does
-regroup : (a b c d : Bool) → (a && b && cond c d true) ≡ (a && (b && cond c d true))
-regroup a b c d = and-assoc a b (cond c d true)
-
 -- what stands beside a guard of 0 is 0
 unguarded-none : (g v x : ℕ) → eqb (cond (eqb g 0) (bitOr v x) 0) 0 ≡ cond (eqb g 0) (eqb v 0 && eqb x 0) true
 unguarded-none g v x = cond-elim (λ (y : ℕ). eqb y 0 ≡ cond (eqb g 0) (eqb v 0 && eqb x 0) true) (eqb g 0) (bitOr v x) 0 (λ b. rw b (none-gathered v x)) (λ b. rw b)
@@ -41,10 +37,8 @@ pub flaw-is : (n g v x a b u : ℕ) → a ≡ above n g → b ≡ above n v → 
 unfolding cached-holds
 flaw-is n g v x a b u e f h =
     none-gathered (bitOr a b) u
-    ∙ rw (none-gathered a b, e, f, h, above-none n g, above-none n v, unguarded-none g v x) (regroup (leb g n) (leb v n) (eqb g 0) (eqb v 0 && eqb x 0))
-
-drop-next : (l : List ℕ) (i : ℕ) → i < length l → drop i l ≡ getD l i 0 ∷ drop (i + 1) l
-drop-next l i h = rw (add-one, drop-cons l i 0)
+    ∙ rw (none-gathered a b, e, f, h, above-none n g, above-none n v, unguarded-none g v x)
+    (and-assoc (leb g n) (leb v n) (cond (eqb g 0) (eqb v 0 && eqb x 0) true))
 
 -- the 2,048 words from b on
 abbrev column : List ℕ → ℕ → List ℕ

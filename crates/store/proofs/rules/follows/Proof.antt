@@ -1,6 +1,5 @@
 -- `store::rules::follows` meets its contract.
 -- Assumes nothing.
-use mathlib.Core.Path.{_∙_}
 use borrow.Author.Needs.{needs}
 use Rattle.store.proofs.Turns.{follows-is}
 use Rattle.store.proofs.rules.follows.Statement.{statement}
