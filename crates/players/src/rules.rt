@@ -25,7 +25,8 @@ fn flaw(last: u32, guard: u32, version: u32, value: u32) -> u32
     words::above(guard, last) | words::above(version, last) | unguarded(guard, version | value)
 }
 
-// No bits where the value that the player has cached for the entry keeps the rules, else some. It is the cell with the running number `i`.
+// No bits where the value that the player has cached for the entry keeps the rules, else some. That is promised of player and entry; the words are
+// read at the running number `i`, which stands for the two.
 fn cell_flaw(players: &[u32], player: usize, entry: usize, i: usize) -> u32
     requires { ⌜ (length (now players) ≡ players-words) × (i < cell-count) × Stands i player entry ⌝ }
     ensures { λ r. ⌜ eqb r 0 ≡ cached-at (now (players .entry)) player entry ⌝ }
