@@ -751,9 +751,9 @@ fn store_alone(group: &mut Group<impl Library>) {
     }
 }
 
-/// Each word of both tables in turn made each number at the edge of a rule, on tables that are empty and
-/// on such as are full: the test of the tables passes over no word, also where a row of cells ends or
-/// several words are tested at once.
+/// Each word of both tables in turn made each number at the edge of a rule, in a smaller plan the first of
+/// them, on tables that are empty and on such as are full: the test of the tables passes over no word,
+/// also where a row of cells ends or several words are tested at once.
 fn each_word(group: &mut Group<impl Library>) {
     let mut empty = State::fresh();
     empty.last_serial = MAX_REQUESTS as u32;
@@ -761,7 +761,8 @@ fn each_word(group: &mut Group<impl Library>) {
         let last = state.last_serial;
         let (store, players) = tables_of(&state);
         for at in 0..STORE_WORDS + PLAYERS_WORDS {
-            for word in [0, 1, 2, 8, 9, last, last + 1, BARRED] {
+            let numbers = [last + 1, 1, 0, BARRED, 9, 2, 8, last];
+            for word in numbers.into_iter().take(group.plan.share(8) as usize) {
                 let (mut store, mut players) = (store.clone(), players.clone());
                 match at.checked_sub(STORE_WORDS) {
                     None => store[at] = word,
