@@ -751,18 +751,25 @@ fn store_alone(group: &mut Group<impl Library>) {
     }
 }
 
-/// Each word of both tables in turn made each number at the edge of a rule, in a smaller plan the first of
-/// them, on tables that are empty and on such as are full: the test of the tables passes over no word,
-/// also where a row of cells ends or several words are tested at once.
+/// Each word of both tables in turn made each of ten numbers at edges of the rules, in a smaller plan the
+/// first of them, on tables that are empty, that have one request and twelve guard intervals, and that are
+/// full: the test of the tables passes over no word, also where a row of cells ends, or where several
+/// words are tested at once and a few are left.
 fn each_word(group: &mut Group<impl Library>) {
     let mut empty = State::fresh();
     empty.last_serial = MAX_REQUESTS as u32;
-    for state in [empty, full_state()] {
+    let mut few = empty.clone();
+    let (player, entry) = (0, 0);
+    rules::step(&mut few, Step::Read { player, entry });
+    for (entry, guard) in few.store.guards[..11].iter_mut().enumerate() {
+        *guard = [BARRED, 1][entry % 2];
+    }
+    for state in [empty, few, full_state()] {
         let last = state.last_serial;
         let (store, players) = tables_of(&state);
         for at in 0..STORE_WORDS + PLAYERS_WORDS {
-            let numbers = [last + 1, 1, 0, BARRED, 9, 2, 8, last];
-            for word in numbers.into_iter().take(group.plan.share(8) as usize) {
+            let numbers = [last + 1, 1, 0, BARRED, 9, 2, 8, last, 256, 65_536];
+            for word in numbers.into_iter().take(group.plan.share(10) as usize) {
                 let (mut store, mut players) = (store.clone(), players.clone());
                 match at.checked_sub(STORE_WORDS) {
                     None => store[at] = word,

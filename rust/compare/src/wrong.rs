@@ -45,9 +45,9 @@ pub enum Point {
     RunTablesUntested,
     /// A players' table of the wrong length is 22.
     PlayersLengthAsRule,
-    /// The test of the tables passes over the first cell of each player but player 0.
+    /// `check` passes over the first cell of each player but player 0.
     CheckMissesRowStarts,
-    /// The test of the tables passes over the last cell of the last player.
+    /// `check` passes over the last cell of the last player.
     CheckMissesLastCell,
     /// Fresh leaves the last word of the players' table.
     FreshMissesLastWord,

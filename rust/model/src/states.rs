@@ -79,8 +79,8 @@ pub fn any_state(rng: &mut Prng) -> State {
 }
 
 /// A state that leaves no word unused: every player has a guard and a cached value for every entry, there
-/// are 64 requests of all sorts, six of each player and 16 loads, and 256 guard intervals, and every entry
-/// begins a tablet and is owned.
+/// are 64 requests of every kind, six of each player and 16 loads, some delivered, some given up, and 256
+/// guard intervals, and every entry begins a tablet and is owned.
 pub fn full_state() -> State {
     let mut state = State::fresh();
     state.last_serial = 1;

@@ -242,8 +242,8 @@ fn round_trip() {
     }
 }
 
-/// The state that leaves no word unused: none that may be 0 is, but the first interval's start and
-/// fields of requests.
+/// The state that leaves no word unused: no boundary, interval after the first, version, value, epoch or
+/// cell is 0, and every place has a request.
 #[test]
 fn full() {
     let state = full_state();
