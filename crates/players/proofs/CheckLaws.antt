@@ -23,7 +23,7 @@ use Rattle.players.specs.Replies.{refusal}
 use Rattle.players.specs.Rules.{fresh}
 use Rattle.players.specs.Calls.{left, whole, checked, made-fresh}
 use Rattle.players.specs.Regions.{region}
-use Rattle.players.specs.Table.{players-words, cell-count, guards-at, versions-at, values-at, cell, Stands, tableOf, valid-players, valid, cached-holds, cached-at, cached-all}
+use Rattle.players.specs.Table.{players-words, cell-count, guards-at, versions-at, values-at, cell, StandsFor, tableOf, valid-players, valid, cached-holds, cached-at, cached-all}
 use Rattle.players.proofs.RunningNumbers.{stands-number, stands-entry}
 
 -- ---- cached values
@@ -59,7 +59,7 @@ module _ (t : List ℕ) (l : length t ≡ players-words) (i : ℕ) where
     column-next : (b : ℕ) → b + cell-count ≤ players-words → drop i (column t b) ≡ getD t (b + i) 0 ∷ drop (i + 1) (column t b)
     column-next b k = drop-next (column t b) i (rw (length-column b k) h) ∙ rw (column-at b)
 
-    module _ (p e : ℕ) (s : Stands i p e) where
+    module _ (p e : ℕ) (s : StandsFor i p e) where
       cell-is : (b : ℕ) → cell (region b cell-count t) p e ≡ getD t (b + i) 0
       unfolding cell region
       cell-is b = rw (lt-ltb e 256 (stands-entry i p e s), sym (stands-number i p e s)) (column-at b)

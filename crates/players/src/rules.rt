@@ -6,7 +6,7 @@ ghost use mathlib.Core.Bool.{cond};
 ghost use Prim.Native.Nat.{_<_};
 ghost use lib.Dec.{eqb};
 ghost use lib.ListN.{length, getD, take, drop};
-ghost use Rattle.players.specs.Table.{players-words, Stands, cached-holds, cached-at, cached-all, valid-players, cell-count, guards-at, versions-at, values-at};
+ghost use Rattle.players.specs.Table.{players-words, StandsFor, cached-holds, cached-at, cached-all, valid-players, cell-count, guards-at, versions-at, values-at};
 
 // The bits that stand beside a guard of 0, where none may stand.
 fn unguarded(guard: u32, bits: u32) -> u32
@@ -28,7 +28,7 @@ fn flaw(last: u32, guard: u32, version: u32, value: u32) -> u32
 // No bits where the value that the player has cached for the entry keeps the rules, else some. That is promised of player and entry; the words are
 // read at the running number `i`, which stands for the two.
 fn cell_flaw(players: &[u32], player: usize, entry: usize, i: usize) -> u32
-    requires { ⌜ (length (now players) ≡ players-words) × (i < cell-count) × Stands i player entry ⌝ }
+    requires { ⌜ (length (now players) ≡ players-words) × (i < cell-count) × StandsFor i player entry ⌝ }
     ensures { λ r. ⌜ eqb r 0 ≡ cached-at (now (players .entry)) player entry ⌝ }
 {
     flaw(

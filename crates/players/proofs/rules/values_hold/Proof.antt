@@ -6,7 +6,7 @@ use mathlib.Core.Bool.{_&&_}
 use Prim.Native.Nat.{_≤_, _-_}
 use native.Mathlib.Omega.{arith}
 use lib.Dec.{eqb}
-use Rattle.players.specs.Table.{cell-count, Stands}
+use Rattle.players.specs.Table.{cell-count, StandsFor}
 use Rattle.players.proofs.RunningNumbers.{stands-first, stands-along, stands-over}
 use Rattle.players.proofs.CheckLaws.{rest-holds, values-turn, values-end}
 use Rattle.players.proofs.rules.values_hold.Statement.{statement}
@@ -14,7 +14,7 @@ use Rattle.players.proofs.rules.values_hold.Tie as tie
 
 abbrev Inv-loop : tie.InvT-loop
 Inv-loop players flaws₀ player₀ entry₀ i₀ flaws player entry i =
-    (i ≤ cell-count) × Stands i player entry × ((eqb flaws 0 && rest-holds players i) ≡ rest-holds players 0)
+    (i ≤ cell-count) × StandsFor i player entry × ((eqb flaws 0 && rest-holds players i) ≡ rest-holds players 0)
 
 abbrev μ-loop : tie.MeasureT-loop
 μ-loop players flaws₀ player₀ entry₀ i₀ flaws player entry i = cell-count - i
