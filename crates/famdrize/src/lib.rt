@@ -1,6 +1,7 @@
 // The calls for programs in C or Rust (include/famdrize.h): numbers, lent slices of numbers, and structs of numbers laid out as C does.
 pub mod alone;
 pub mod lent;
+pub mod previews;
 pub mod records;
 pub mod running;
 mod step_fields;

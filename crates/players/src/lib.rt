@@ -32,7 +32,7 @@ pub enum Step {
 }
 
 // Whether both tables have their lengths.
-fn whole(store: &[u32], players: &[u32]) -> bool
+pub fn whole(store: &[u32], players: &[u32]) -> bool
     ensures { λ r. ⌜ r ≡ whole (now (store .entry)) (now (players .entry)) ⌝ }
 {
     if store.len() != store::layout::WORDS {

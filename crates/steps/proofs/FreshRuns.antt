@@ -43,7 +43,7 @@ next left place s (Record x n) part h =
     record { replied = ap suc (c .replied); few = omega (arith, c .few) }
 next left place s (Refused n) part h = none (suc left) n place s
 
-counted-from : (left : ℕ) (s : State) (place : ℕ) (part : List ℕ) → Counted left (run-from left s place part)
+pub counted-from : (left : ℕ) (s : State) (place : ℕ) (part : List ℕ) → Counted left (run-from left s place part)
 unfolding run-from
 counted-from zero s place part = none zero _ place s
 counted-from (suc left) s place part =

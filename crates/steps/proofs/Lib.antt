@@ -1,4 +1,4 @@
--- Laws that the functions' proofs cite.
+-- Laws that the functions' proofs cite, and of refusals (Refusals) and of what follows a preview (AfterPreviews).
 pub mod WordLaws
 pub mod RunLaws
 pub mod TableLaws
@@ -15,4 +15,6 @@ pub mod LoopLaws
 pub mod RunningLaws
 pub mod RanLaws
 pub mod FreshRuns
+pub mod PreviewLaws
+pub mod AfterPreviews
 pub mod Refusals

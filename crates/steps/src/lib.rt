@@ -4,6 +4,7 @@ mod issuing;
 mod leaving;
 mod loading;
 mod ownership;
+pub mod previews;
 mod responding;
 pub mod running;
 mod store_steps;

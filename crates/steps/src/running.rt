@@ -38,7 +38,7 @@ fn allowed(budget: u32, places: usize) -> usize
 }
 
 // Why a run stopped, the records it took, and the place after them.
-fn stopped(why: u32, taken: usize, place: usize) -> Report
+pub(crate) fn stopped(why: u32, taken: usize, place: usize) -> Report
     requires { ⌜ (taken ≤ 4294967295) × (place ≤ 4294967295) ⌝ }
     ensures { λ r. ⌜ r ≡ report why taken place ⌝ }
 {
