@@ -5,7 +5,6 @@ use crate::Stated;
 use crate::given;
 use crate::refuse;
 use crate::step_fields;
-use session::Fields;
 ghost use mathlib.Core.Path.{_≡_};
 ghost use Rattle.session.specs.Fields.{six};
 ghost use Rattle.steps.specs.Previews.{run-preview, previewed-run};
@@ -25,15 +24,7 @@ pub extern "C" fn famdrize_preview(
 ) -> Answer
     ensures { λ r. ⌜ reply-of r ≡ foreseen (six kind player entry high value serial) (now (store .entry)) (now (players .entry)) ⌝ }
 {
-    let f = Fields {
-        kind,
-        player,
-        entry,
-        high,
-        value,
-        serial,
-    };
-    let stated = step_fields::step_of(f);
+    let stated = step_fields::step_of(kind, player, entry, high, value, serial);
     match stated {
         Stated::Taken(next) => given(steps::previews::preview(store, players, next)),
         Stated::Refused(code) => refuse(code),

@@ -79,15 +79,7 @@ pub extern "C" fn famdrize_encode(
 ) -> Answer
     ensures { λ r. ⌜ wrote (reply-of r) (now (out .exit)) ≡ recorded (six kind player entry high value serial) (now (out .entry)) ⌝ }
 {
-    let f = Fields {
-        kind,
-        player,
-        entry,
-        high,
-        value,
-        serial,
-    };
-    let stated = step_fields::step_of(f);
+    let stated = step_fields::step_of(kind, player, entry, high, value, serial);
     match stated {
         Stated::Taken(step) => given(session::records::encode(step, out)),
         Stated::Refused(code) => refuse(code),

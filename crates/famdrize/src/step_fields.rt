@@ -6,7 +6,7 @@ use session::codes;
 use session::kinds::fields_of;
 use session::records;
 ghost use mathlib.Core.Path.{_≡_};
-ghost use Rattle.session.specs.Fields.{numbers};
+ghost use Rattle.session.specs.Fields.{six, numbers};
 ghost use Rattle.famdrize.specs.Fields.{agree, stated};
 
 // Whether all fields are the same.
@@ -32,9 +32,24 @@ fn same(f: Fields, g: Fields) -> bool
 }
 
 // The step of the kind with these fields. Those that the kind lacks are 0 exactly where the step has the same fields.
-pub(crate) fn step_of(f: Fields) -> Stated
-    ensures { λ r. ⌜ r ≡ stated (numbers f) ⌝ }
+pub(crate) fn step_of(
+    kind: u8,
+    player: u8,
+    entry: u8,
+    high: u16,
+    value: u32,
+    serial: u32,
+) -> Stated
+    ensures { λ r. ⌜ r ≡ stated (six kind player entry high value serial) ⌝ }
 {
+    let f = Fields {
+        kind,
+        player,
+        entry,
+        high,
+        value,
+        serial,
+    };
     let read = records::of_fields(f);
     match read {
         Decoded::Record { step, length } => {

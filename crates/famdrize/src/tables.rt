@@ -4,7 +4,6 @@ use crate::Stated;
 use crate::given;
 use crate::refuse;
 use crate::step_fields;
-use session::Fields;
 ghost use mathlib.Core.Path.{_≡_};
 ghost use Rattle.players.specs.Calls.{left, checked, made-fresh};
 ghost use Rattle.famdrize.specs.Calls.{reply-of, stepped};
@@ -40,15 +39,7 @@ pub extern "C" fn famdrize_step(
 ) -> Answer
     ensures { λ r. ⌜ left (reply-of r) (now (store .exit)) (now (players .exit)) ≡ stepped (six kind player entry high value serial) (now (store .entry)) (now (players .entry)) ⌝ }
 {
-    let f = Fields {
-        kind,
-        player,
-        entry,
-        high,
-        value,
-        serial,
-    };
-    let stated = step_fields::step_of(f);
+    let stated = step_fields::step_of(kind, player, entry, high, value, serial);
     match stated {
         Stated::Taken(next) => given(steps::step(store, players, next)),
         Stated::Refused(code) => refuse(code),

@@ -2,7 +2,7 @@
 -- Assumes nothing.
 use mathlib.Core.Path.{_∙_, sym, ap}
 use mathlib.Core.Bool.{true, false}
-use Rattle.session.specs.Fields.{numbers}
+use Rattle.session.specs.Fields.{six}
 use Rattle.famdrize.specs.Fields.{agree}
 use Rattle.famdrize.proofs.FieldLaws.{stated-refused, stated-by}
 use borrow.Author.Needs.{needs}
@@ -30,10 +30,10 @@ returns c =
     let w = q .before in
     let x = w .before .before in
     let r = x .before .before in
-    let a = r .before .args .f in
+    let a = r .before .args in
     sym
     (stated-by (a .kind) (a .player) (a .entry) (a .high) (a .value) (a .serial) _ _ (sym (r .of-fields .ensures) ∙ x .read .given .1) true
-    (sym (c .if1 .taken) ∙ q .same .ensures ∙ ap (agree (numbers a)) (w .fields-of .ensures)))
+    (sym (c .if1 .taken) ∙ q .same .ensures ∙ ap (agree (six (a .kind) (a .player) (a .entry) (a .high) (a .value) (a .serial))) (w .fields-of .ensures)))
 
 returns-2 : tie.Need-returns-2
 returns-2 c =
@@ -41,16 +41,16 @@ returns-2 c =
     let w = q .before in
     let x = w .before .before in
     let r = x .before .before in
-    let a = r .before .args .f in
+    let a = r .before .args in
     sym
     (stated-by (a .kind) (a .player) (a .entry) (a .high) (a .value) (a .serial) _ _ (sym (r .of-fields .ensures) ∙ x .read .given .1) false
-    (sym (c .if1 .left) ∙ q .same .ensures ∙ ap (agree (numbers a)) (w .fields-of .ensures)))
+    (sym (c .if1 .left) ∙ q .same .ensures ∙ ap (agree (six (a .kind) (a .player) (a .entry) (a .high) (a .value) (a .serial))) (w .fields-of .ensures)))
 
 returns-3 : tie.Need-returns-3
 returns-3 c =
     let x = c .before in
     let r = x .before .before in
-    let a = r .before .args .f in
+    let a = r .before .args in
     stated-refused (a .kind) (a .player) (a .entry) (a .high) (a .value) (a .serial) _ (sym (r .of-fields .ensures) ∙ x .read2 .given .1)
 
 pub step-of-spec : {M : Type 1} → statement M
