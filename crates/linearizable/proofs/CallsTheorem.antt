@@ -25,7 +25,7 @@ use Rattle.steps.proofs.FreshRuns.{counted}
 use Rattle.session.specs.Fields.{six}
 use Rattle.famdrize.proofs.CallLaws.{ByNumbers, takes, refuses, by-numbers}
 use Rattle.linearizable.specs.Tables.{store-in}
-use Rattle.linearizable.specs.Calls.{Call, a-step, exported-step, a-run, Handed, AllHanded, steps-of, left-by, replies-of, all-steps, all-replies, after-all, LinearizableCalls}
+use Rattle.linearizable.specs.Calls.{Call, a-step, exported-step, a-run, a-preview, exported-preview, a-run-preview, Handed, AllHanded, steps-of, left-by, replies-of, all-steps, all-replies, after-all, LinearizableCalls}
 use Rattle.linearizable.proofs.Theorem.{theorem}
 use Rattle.linearizable.proofs.SessionTheorem.{run-of-steps}
 use Rattle.linearizable.proofs.RunTheorem.{bytes-fit}
@@ -85,10 +85,18 @@ does-run s k session budget list h =
       left = rw (e, ← o .left);
     }
 
+-- a preview takes no step, and leaves the tables
+does-nothing : (s : State) (c : Call) → steps-of c ≡ [] → replies-of (tablesOf s) c ≡ [] → left-by (tablesOf s) c ≡ tablesOf s → Does s c
+unfolding state-after
+does-nothing s c none r l = record { fit = rw none tt; replied = rw (none, r); left = rw none l }
+
 does : (s : State) → Ok s → (c : Call) → Handed c → Does s c
 does s k (a-step x) h = does-step s k x h
 does s k (exported-step kind p e g v n) h = does-numbers s k kind p e g v n (by-numbers kind p e g v n h)
 does s k (a-run session budget list) h = does-run s k session budget list h
+does s k (a-preview x) h = does-nothing s (a-preview x) refl refl refl
+does s k (exported-preview kind p e g v n) h = does-nothing s (exported-preview kind p e g v n) refl refl refl
+does s k (a-run-preview session budget list) h = does-nothing s (a-run-preview session budget list) refl refl refl
 
 -- ---- all of them
 
