@@ -24,6 +24,9 @@ const TAKE: u8 = b't';
 // `keep KIND PLAYER ENTRY HIGH VALUE SERIAL`: a step, and whether each table is what it was.
 const KEEP: u8 = b'k';
 
+// `ahead KIND PLAYER ENTRY HIGH VALUE SERIAL`: a preview of a step, and whether each table is what it was.
+const AHEAD: u8 = b'a';
+
 // `reads TIMES`: player 0 reads entry 0 so many times; nothing is printed.
 const READS: u8 = b'r';
 
@@ -47,17 +50,15 @@ fn step_of(n: [u32; 6]) -> Decoded {
     })
 }
 
-// Takes a step; where the tables are to be compared, says whether each is what it was.
-fn take(n: [u32; 6], compared: bool, store: &mut [u32; STORE], players: &mut [u32; PLAYERS]) {
+// Takes a step, or previews it; where the tables may not change, says whether each is what it was.
+fn take(n: [u32; 6], call: u8, store: &mut [u32; STORE], players: &mut [u32; PLAYERS]) {
     let found = step_of(n);
     match found {
-        Decoded::Record { step, length } => {
-            if compared {
-                trial::same_step(store, players, step);
-            } else {
-                trial::step(store, players, step);
-            }
-        }
+        Decoded::Record { step, length } => match call {
+            AHEAD => trial::ahead(store, players, step),
+            KEEP => trial::same_step(store, players, step),
+            _ => trial::step(store, players, step),
+        },
         Decoded::Refused(why) => show::say(b"no step\n"),
     }
 }
@@ -68,8 +69,9 @@ fn call(line: Line, store: &mut [u32; STORE], players: &mut [u32; PLAYERS]) {
     let n = line.numbers;
     match first {
         FRESH => trial::fresh(store, players),
-        TAKE => take(n, false, store, players),
-        KEEP => take(n, true, store, players),
+        TAKE => take(n, TAKE, store, players),
+        KEEP => take(n, KEEP, store, players),
+        AHEAD => take(n, AHEAD, store, players),
         READS => trial::reads(store, players, n[0]),
         STORE_WORD => trial::put(store, n[0], n[1]),
         PLAYERS_WORD => trial::put(players, n[0], n[1]),

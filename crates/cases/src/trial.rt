@@ -16,8 +16,7 @@ pub(crate) fn fresh(store: &mut [u32; STORE], players: &mut [u32; PLAYERS]) {
 
 // Takes a step.
 pub(crate) fn step(store: &mut [u32; STORE], players: &mut [u32; PLAYERS], next: Step) {
-    show::step(next);
-    show::reply(steps::step(store, players, next));
+    step_shown(store, players, next);
     show::say(b"\n");
 }
 
@@ -43,11 +42,35 @@ pub(crate) fn same_step(store: &mut [u32; STORE], players: &mut [u32; PLAYERS], 
     let mut players_before = [0u32; PLAYERS];
     words::copy(&mut store_before, store);
     words::copy(&mut players_before, players);
-    show::step(next);
-    show::reply(steps::step(store, players, next));
+    step_shown(store, players, next);
     same(store, &store_before);
     same(players, &players_before);
     show::say(b"\n");
+}
+
+// Previews a step, and says whether each table is what it was.
+pub(crate) fn ahead(store: &mut [u32; STORE], players: &mut [u32; PLAYERS], next: Step) {
+    let mut store_before = [0u32; STORE];
+    let mut players_before = [0u32; PLAYERS];
+    words::copy(&mut store_before, store);
+    words::copy(&mut players_before, players);
+    preview_shown(store, players, next);
+    same(store, &store_before);
+    same(players, &players_before);
+    show::say(b"\n");
+}
+
+// A step and its reply.
+fn step_shown(store: &mut [u32], players: &mut [u32], next: Step) {
+    show::step(next);
+    show::reply(steps::step(store, players, next));
+}
+
+// A step and the reply that it would get.
+fn preview_shown(store: &[u32], players: &[u32], next: Step) {
+    show::say(b"ahead ");
+    show::step(next);
+    show::reply(steps::previews::preview(store, players, next));
 }
 
 // Lends the first words alone, of tables in which every word is 7, and says whether each table is what it was.
@@ -79,19 +102,20 @@ fn part(store: &mut [u32], n: usize, players: &mut [u32], m: usize) {
     both(&mut store[0..n], &mut players[0..m]);
 }
 
-// Makes tables fresh and takes two steps.
+// Makes tables fresh, takes two steps and previews one.
 fn both(store: &mut [u32], players: &mut [u32]) {
     show::say(b", fresh");
     show::reply(players::fresh(store, players));
     then(store, players, Step::Split { entry: 9 });
     then(store, players, Step::FindInterval { entry: 9 });
+    show::say(b", ");
+    preview_shown(store, players, Step::Split { entry: 9 });
 }
 
 // Takes a step after other calls of the line.
 fn then(store: &mut [u32], players: &mut [u32], next: Step) {
     show::say(b", ");
-    show::step(next);
-    show::reply(steps::step(store, players, next));
+    step_shown(store, players, next);
 }
 
 // Puts a word into a table.

@@ -1,13 +1,13 @@
--- "A refusal gives its number and two zeros and alters no table or buffer": of the exported calls that take a step or write a record by its
--- six numbers, and of the one that reads a record.
+-- "A refusal gives its number and two zeros and alters no table or buffer": of the exported calls that take a step, preview it or write its record
+-- by its six numbers, and of the one that reads a record.
 -- Assumes nothing.
-use mathlib.Core.Path.{_≡_, refl}
+use mathlib.Core.Path.{_≡_, refl, ap}
 use mathlib.Core.List.{List, [], _∷_}
 use Prim.Native.Nat.{ℕ, _≤_}
 use native.Mathlib.Omega.{arith}
 use lib.ListN.{getD}
-use Rattle.players.specs.Replies.{refusal}
-use Rattle.players.specs.Calls.{left}
+use Rattle.players.specs.Replies.{first-refusal, refusal}
+use Rattle.players.specs.Calls.{Done, left}
 use Rattle.players.specs.Played.{taken}
 use Rattle.players.proofs.Refusals.{Keeps as KeepsTables, step-keeps}
 use Rattle.session.specs.declared.Decoded.{Decoded}
@@ -18,7 +18,7 @@ use Rattle.session.proofs.Refusals.{Keeps as KeepsBuffer, written-keeps}
 use Rattle.famdrize.specs.declared.Stated.{Stated}
 use Rattle.famdrize.specs.declared.Stated.the-variants.{Taken, Refused as NotStated}
 use Rattle.famdrize.specs.Fields.{stated, on-stated}
-use Rattle.famdrize.specs.Calls.{stepped, recorded, decoded}
+use Rattle.famdrize.specs.Calls.{stepped, foreseen, recorded, decoded}
 
 -- a step, also one that is refused before the tables are looked at
 pub stepped-keeps : (vs st t : List ℕ) → KeepsTables st t (stepped vs st t)
@@ -27,6 +27,10 @@ stepped-keeps vs st t = by (stated vs)
     by : (d : Stated) → KeepsTables st t (on-stated d (λ x. taken x st t) (λ n. left (refusal n) st t))
     by (Taken x) = step-keeps x st t
     by (NotStated n) = record { kept = λ h. refl }
+
+-- a preview of it: the number and two zeros
+pub foreseen-keeps : (vs st t : List ℕ) → first-refusal ≤ foreseen vs st t .code → foreseen vs st t ≡ refusal (foreseen vs st t .code)
+foreseen-keeps vs st t h = ap (λ (d : Done). d .reply) (stepped-keeps vs st t .kept h)
 
 -- a record written
 pub recorded-keeps : (vs out : List ℕ) → KeepsBuffer out (recorded vs out)

@@ -2,7 +2,7 @@
 -- Assumes nothing.
 use mathlib.Core.Path.{_≡_, refl}
 use mathlib.Core.List.{List, [], _∷_, _++_, map}
-use Prim.Native.Nat.{ℕ}
+use Prim.Native.Nat.{ℕ, zero, suc}
 use Rattle.store.specs.Model.{unbroken, tablet-first, tablet-end, interval-first, interval-last}
 use Rattle.store.specs.declared.Reply.{Reply}
 use Rattle.players.specs.declared.Step.{Step}
@@ -15,13 +15,14 @@ use Rattle.session.specs.Layout.{fields-length, record-length, fields, f
 use Rattle.session.specs.declared.Decoded.the-variants.{Record}
 use Rattle.session.specs.Records.{cut-short, unknown-field, unknown-kind, wrong-fields, tested, decode, numbers, encode, encode-all}
 use Rattle.session.specs.Mark.{mark, begins}
-use Rattle.session.specs.Runs.{at-end, spent, no-mark, run, run-from}
+use Rattle.session.specs.Runs.{Run, at-end, spent, no-mark, run, run-from, preview-budget}
 
--- what is given: steps from a state; the bytes of a record; a session, with a budget and so many list places
+-- what is given: steps from a state; the bytes of a record; a session, with a budget and so many list places, that is run; the same, previewed
 pub data Given : Type 0 where
   steps : State → List Step → Given
   record-bytes : List ℕ → Given
   session : List ℕ → ℕ → ℕ → Given
+  preview : List ℕ → ℕ → ℕ → Given
 
 -- a row: what is given, and its replies
 pub record Case : Type 0 where
@@ -31,13 +32,16 @@ pub record Case : Type 0 where
 abbrev case : Given → List Reply → Case
 case g rs = record { given = g; expected = rs }
 
--- the replies to steps; the number of a record, as a refusal; the replies of a run from the fresh state, and last its report
+-- the replies of a run, and last its report
+abbrev told : Run → List Reply
+told r = r .replies ++ (reply (r .report .why) (r .report .records) (r .report .place) ∷ [])
+
+-- the replies to steps; the number of a record, as a refusal; what is told of a run from the fresh state, and of its preview
 abbrev pub found : Given → List Reply
 found (steps s xs) = replies s xs
 found (record-bytes s) = refusal (numbers (decode s) .code) ∷ []
-found (session s budget places) =
-    let r = run fresh s budget places in
-    r .replies ++ (reply (r .report .why) (r .report .records) (r .report .place) ∷ [])
+found (session s budget places) = told (run fresh s budget places)
+found (preview s budget places) = told (run fresh s (preview-budget budget) places)
 
 -- ---- sessions
 
@@ -84,6 +88,18 @@ loaded =
     ∷ 0x15 ∷ 0x0F ∷ 0x2D ∷ 0x08 ∷ 0x00 ∷ 0x00 ∷ 0x00
     ∷ 0x21 ∷ 0x06 ∷ 0x02 ∷ 0x00 ∷ 0x00 ∷ 0x00
     ∷ 0x21 ∷ 0x07 ∷ 0x02 ∷ 0x00 ∷ 0x00 ∷ 0x00 ∷ [])
+
+-- document 02 §4: so many boundaries set, before entry e and those after it
+abbrev splits-from : ℕ → ℕ → List ℕ
+splits-from e zero = []
+splits-from e (suc n) = 0x05 ∷ 0x0A ∷ e ∷ splits-from (suc e) n
+
+abbrev splits : ℕ → List ℕ
+splits n = mark ++ splits-from 1 n
+
+abbrev dones : ℕ → List Reply
+dones zero = []
+dones (suc n) = done ∷ dones n
 
 -- ---- the rows
 
@@ -136,9 +152,32 @@ session-cases =
     ∷ case (session loaded 16384 5460) (issued 1 ∷ done ∷ committed 1 7 ∷ done ∷ issued 2 ∷ done ∷ rejected 2 ∷ reply at-end 7 45 ∷ [])
     ∷ []
 
--- all of them: steps, records, sessions
+-- document 02 §4
+abbrev preview-cases : List Case
+preview-cases =
+    -- "with its report and replies": the document's session, of 15 records
+    case (preview worked-session 16384 5460)
+    (issued 1 ∷ issued 2 ∷ done ∷ granted 2 ∷ issued 3 ∷ issued 4 ∷ issued 5 ∷ done ∷ granted 5 ∷ issued 6 ∷ done ∷ store-read 0 0 ∷ done ∷ cache-read 0 0 ∷ rejected 3 ∷ reply at-end 15 92 ∷ [])
+    -- "a budget above 16 counting as 16": 16 records are all; one more is left
+    ∷ case (preview (splits 16) 16384 5460) (dones 16 ++ (reply at-end 16 52 ∷ []))
+    ∷ case (preview (splits 17) 16384 5460) (dones 16 ++ (reply spent 16 52 ∷ []))
+    ∷ case (preview (splits 17) 17 5460) (dones 16 ++ (reply spent 16 52 ∷ []))
+    ∷ case (preview (splits 17) 16 5460) (dones 16 ++ (reply spent 16 52 ∷ []))
+    -- a smaller one stays; so do the list's places
+    ∷ case (preview (splits 17) 15 5460) (dones 15 ++ (reply spent 15 49 ∷ []))
+    ∷ case (preview (splits 17) 0 5460) (reply spent 0 4 ∷ [])
+    ∷ case (preview (splits 17) 16384 2) (dones 2 ++ (reply spent 2 10 ∷ []))
+    -- 9 comes before the number of a bad record behind the 16th; one before it is told
+    ∷ case (preview (splits 16 ++ (0x40 ∷ [])) 16384 5460) (dones 16 ++ (reply spent 16 52 ∷ []))
+    ∷ case (preview (splits 15 ++ (0x40 ∷ [])) 16384 5460) (dones 15 ++ (reply unknown-field 15 49 ∷ []))
+    -- a refused step is replied to, a refused run is refused
+    ∷ case (preview refused-first 16384 5460) (refusal 28 ∷ issued 1 ∷ reply at-end 2 11 ∷ [])
+    ∷ case (preview [] 16384 5460) (reply no-mark 0 0 ∷ [])
+    ∷ []
+
+-- all of them: steps, records, sessions, previews
 abbrev pub cases : List Case
-cases = map (λ (c : StepCase). case (steps (c .from) (c .steps)) (c .expected)) step-cases ++ (record-cases ++ session-cases)
+cases = map (λ (c : StepCase). case (steps (c .from) (c .steps)) (c .expected)) step-cases ++ (record-cases ++ (session-cases ++ preview-cases))
 
 -- each case is found as expected
 pub theorem : map (λ (c : Case). found (c .given)) cases ≡ map (λ (c : Case). c .expected) cases

@@ -1,4 +1,5 @@
--- Laws that the functions' proofs cite, and of refusals (Refusals) and of what follows a preview (AfterPreviews).
+-- Laws that the functions' proofs cite; and of refusals (Refusals), of what follows a preview (AfterPreviews), and of a preview beside the whole run
+-- (PreviewedRuns).
 pub mod WordLaws
 pub mod RunLaws
 pub mod TableLaws
@@ -17,4 +18,5 @@ pub mod RanLaws
 pub mod FreshRuns
 pub mod PreviewLaws
 pub mod AfterPreviews
+pub mod PreviewedRuns
 pub mod Refusals

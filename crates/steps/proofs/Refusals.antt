@@ -1,7 +1,7 @@
--- "A refusal gives its number and two zeros and alters no table or buffer": of a run. 21, 22, 37 and 23 refuse it; no other reason for which a
--- run stops does.
+-- "A refusal gives its number and two zeros and alters no table or buffer": of a run, and of previews. 21, 22, 37 and 23 refuse a run; no other
+-- reason for which it stops does.
 -- Assumes nothing.
-use mathlib.Core.Path.{_≡_, refl, _∙_, sym}
+use mathlib.Core.Path.{_≡_, refl, _∙_, sym, ap}
 use mathlib.Core.Bool.{Bool, true, false, cond, _||_}
 use mathlib.Core.List.{List}
 use Prim.Native.Nat.{ℕ, zero, suc, _+_, _≤_}
@@ -10,16 +10,20 @@ use lib.Dec.{eqb, ltb}
 use lib.ListN.{length, drop}
 use borrow.Author.Tests.{ne-eqb}
 use Rattle.requests.proofs.Basics.{cond-elim, clash}
+use Rattle.players.specs.declared.Step.{Step}
+use Rattle.players.specs.Replies.{first-refusal, refusal}
 use Rattle.players.specs.Rules.{State, step}
 use Rattle.players.specs.Table.{stateOf, valid}
-use Rattle.players.specs.Calls.{whole}
+use Rattle.players.specs.Calls.{Done, whole}
+use Rattle.players.proofs.Refusals.{step-keeps}
 use Rattle.session.specs.declared.Decoded.{Decoded}
 use Rattle.session.specs.declared.Decoded.the-variants.{Record, Refused}
 use Rattle.session.specs.Records.{cut-short, wrong-fields, decode}
 use Rattle.session.specs.Mark.{marked, mark}
-use Rattle.session.specs.Runs.{report, Run, at-end, spent, stopped, took, on-record, run-from, allowed, run-marked, longest, too-long, no-mark, whole-places}
+use Rattle.session.specs.Runs.{report, Run, at-end, spent, stopped, took, on-record, run-from, allowed, run-marked, longest, too-long, no-mark, preview-budget, whole-places}
 use Rattle.session.proofs.Refusals.{Numbered, decode-numbered}
 use Rattle.steps.specs.RunCalls.{Finished, finished, encoded, ran}
+use Rattle.steps.specs.Previews.{previewed, run-preview, previewed-run}
 
 -- "For a run: 21, 22, 37, 23"
 abbrev pub refuses-run : ℕ → Bool
@@ -57,3 +61,13 @@ run-keeps st t session budget list =
     cond-elim P (valid st t) _ _ (λ _.
     cond-elim P (ltb longest (length session)) _ _ (λ _. record { kept = λ h. refl }) (λ _.
     cond-elim P (marked session) _ _ (λ _. record { kept = λ h. absurd (clash h (goes-on (allowed budget (whole-places list)) (stateOf st t) (length mark) (drop (length mark) session))) }) (λ _. record { kept = λ h. refl }))) (λ _. record { kept = λ h. refl })) (λ _. record { kept = λ h. refl })
+
+-- ---- a refused preview gives its number and two zeros, and leaves the list
+
+pub preview-keeps : (x : Step) (st t : List ℕ) → first-refusal ≤ previewed x st t .code → previewed x st t ≡ refusal (previewed x st t .code)
+preview-keeps x st t h = ap (λ (d : Done). d .reply) (step-keeps x st t .kept h)
+
+pub run-preview-keeps : (st t session : List ℕ) (budget : ℕ) (list : List ℕ) → let p = previewed-run st t session budget list in
+    refuses-run (p .report .why) ≡ true → p ≡ run-preview (report (p .report .why) 0 0) list
+run-preview-keeps st t session budget list h =
+    ap (λ (d : Finished). run-preview (d .report) (d .list)) (run-keeps st t session (preview-budget budget) list .kept h)
