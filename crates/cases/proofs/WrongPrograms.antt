@@ -618,9 +618,11 @@ module _ (f : Previewing) (k : KeepsPreview f) where
   -- one that refuses nothing for what a step needs: the tables' tests, 21 and 22, are all
   pub preview-refuses-nothing : ((x : Step) (st t : List ℕ) → Handed x st t → f x st t .code ≤ 22) → ⊥
   preview-refuses-nothing fault =
-      omega
-      (arith, fault (Deliver 2) (store-after []) (players-after []) (fits .2, words .0, words .1),
-      code (Deliver 2) (store-after []) (players-after []) 32 (fits .2, words .0, words .1) (at 1 0 preview-rows))
+      omega (
+        arith,
+        fault (Deliver 2) (store-after []) (players-after []) (fits .2, words .0, words .1),
+        code (Deliver 2) (store-after []) (players-after []) 32 (fits .2, words .0, words .1) (at 1 0 preview-rows),
+      )
 
   -- one that trusts the tables
   pub preview-trusts : ((x : Step) (st t : List ℕ) → Handed x st t → f x st t .code ≡ 22 → ⊥) → ⊥

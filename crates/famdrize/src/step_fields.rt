@@ -32,14 +32,7 @@ fn same(f: Fields, g: Fields) -> bool
 }
 
 // The step of the kind with these fields. Those that the kind lacks are 0 exactly where the step has the same fields.
-pub(crate) fn step_of(
-    kind: u8,
-    player: u8,
-    entry: u8,
-    high: u16,
-    value: u32,
-    serial: u32,
-) -> Stated
+pub(crate) fn step_of(kind: u8, player: u8, entry: u8, high: u16, value: u32, serial: u32) -> Stated
     ensures { λ r. ⌜ r ≡ stated (six kind player entry high value serial) ⌝ }
 {
     let f = Fields {

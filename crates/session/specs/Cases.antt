@@ -206,3 +206,7 @@ load-read = refl
 pub load-written : encode (Load 45 2164392708) ≡ 0x15 ∷ 0x0F ∷ 0x2D ∷ 0x04 ∷ 0x03 ∷ 0x02 ∷ 0x81 ∷ []
 unfolding field-bytes map-of
 load-written = refl
+
+-- document 02 §4, "a budget above 16 counting as 16"
+pub budgets-counted : map preview-budget (0 ∷ 1 ∷ 15 ∷ 16 ∷ 17 ∷ 16384 ∷ 4294967295 ∷ []) ≡ 0 ∷ 1 ∷ 15 ∷ 16 ∷ 16 ∷ 16 ∷ 16 ∷ []
+budgets-counted = refl
