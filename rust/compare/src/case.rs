@@ -270,11 +270,13 @@ impl Case {
     ) -> Option<String> {
         let model = RIGHT;
         let (store, players) = (&self.store[..], &self.players[..]);
+        let altered = || tables_differ(lent, (store, players));
         let what = match &self.act {
             Act::Fields(fields) => {
                 let expected = model.preview(store, players, *fields);
                 counts.note(Call::Preview(in_force(fields.kind)), expected.code);
-                replies_differ(library.preview(lent.0, lent.1, *fields), expected)
+                let said = library.preview(lent.0, lent.1, *fields);
+                replies_differ(said, expected).or_else(altered)
             }
             Act::Run {
                 session,
@@ -288,13 +290,12 @@ impl Case {
                 counts.note_situations(ends.into_iter().map(Situation::Preview));
                 (0..2).find_map(|_| {
                     let told = library.preview_run(lent.0, lent.1, session, *budget, &mut said);
-                    runs_differ(told, report, &said, &expected)
+                    runs_differ(told, report, &said, &expected).or_else(altered)
                 })
             }
-            _ => return None,
+            _ => None,
         };
-        what.or_else(|| tables_differ(lent, (store, players)))
-            .map(of_preview)
+        what.map(of_preview)
     }
 
     /// One call, after its preview if it has one: what it gives, and what it leaves of all it is lent.
