@@ -162,7 +162,7 @@ impl<'a> TablesMut<'a> {
 
     /// What [`TablesMut::run`] would report, and reply to the records that it would take, where a budget above
     /// [`PREVIEW_RECORDS`](crate::PREVIEW_RECORDS) counts as that many: with more records it is [`Why::Spent`](crate::Why). Nothing but the
-    /// list for the replies is altered, and that neither where the run would be refused; it takes about 43.5 KB of stack, for copies of the
+    /// list for the replies is altered, and where the run would be refused not even that. It takes about 43.5 KB of stack, for copies of the
     /// tables.
     ///
     /// ```
