@@ -24,9 +24,9 @@ extern "C" {
 
 /* The version of this header, and of the library that it is for. */
 #define FAMDRIZE_VERSION_MAJOR 0
-#define FAMDRIZE_VERSION_MINOR 4
-#define FAMDRIZE_VERSION_PATCH 1
-#define FAMDRIZE_VERSION "0.4.1"
+#define FAMDRIZE_VERSION_MINOR 5
+#define FAMDRIZE_VERSION_PATCH 0
+#define FAMDRIZE_VERSION "0.5.0"
 
 /* Words of the two tables; places of the lent list of requests; the last serial that can be issued. */
 #define FAMDRIZE_STORE_WORDS 1280
@@ -42,12 +42,13 @@ extern "C" {
 /* What stands in place of a player's number in a request that is a load. (As the owner of an entry the same number is nobody.) */
 #define FAMDRIZE_LOADER 8
 
-/* Bytes of the longest session, of its mark and of the longest record; the most records that a session holds; words of one reply in the list
- * of a run. */
+/* Bytes of the longest session, of its mark and of the longest record; the most records that a session holds, and that the preview of a run
+ * takes; words of one reply in the list of a run. */
 #define FAMDRIZE_SESSION_BYTES 16384
 #define FAMDRIZE_MARK_BYTES 4
 #define FAMDRIZE_RECORD_BYTES 8
 #define FAMDRIZE_SESSION_RECORDS 5460
+#define FAMDRIZE_PREVIEW_RECORDS 16
 #define FAMDRIZE_REPLY_WORDS 3
 
 /* The kinds of steps. Beside each stand the fields it has; the others are 0. A range goes from entry `entry` up to, not including, `high`. */
@@ -274,6 +275,17 @@ famdrize_reply famdrize_step(uint32_t *store, size_t store_words, uint32_t *play
  * 9 where budget or list is spent; 24 to 27 where a record is refused, and the steps before it keep their effect. */
 famdrize_report famdrize_run(uint32_t *store, size_t store_words, uint32_t *players, size_t players_words, const uint8_t *session,
                              size_t session_bytes, uint32_t budget, uint32_t *replies, size_t replies_words);
+
+/* The reply that famdrize_step would give to the step of this kind with these fields, for every kind and refusal: 26, 27, 21 and 22 too. Neither
+ * table is altered. It takes about 43.5 KB of stack, for copies of the tables. */
+famdrize_reply famdrize_preview(const uint32_t *store, size_t store_words, const uint32_t *players, size_t players_words, uint8_t kind,
+                                uint8_t player, uint8_t entry, uint16_t high, uint32_t value, uint32_t serial);
+
+/* The report that famdrize_run would give, and the replies of the records that it would take, where a budget above FAMDRIZE_PREVIEW_RECORDS
+ * counts as that many: 9 with records left after them. Neither table is altered; only the list is written, of which places not filled keep what
+ * they had, and where the run would be refused not even that. It takes about 43.5 KB of stack, for copies of the tables. */
+famdrize_report famdrize_preview_run(const uint32_t *store, size_t store_words, const uint32_t *players, size_t players_words,
+                                     const uint8_t *session, size_t session_bytes, uint32_t budget, uint32_t *replies, size_t replies_words);
 
 /* ---- records and the session's mark */
 

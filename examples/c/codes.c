@@ -29,6 +29,7 @@ int main(void)
     printf("bytes of the longest session: %d\n", FAMDRIZE_SESSION_BYTES);
     printf("bytes of the longest record: %d\n", FAMDRIZE_RECORD_BYTES);
     printf("most records of a session: %d\n", FAMDRIZE_SESSION_RECORDS);
+    printf("most records of a preview: %d\n", FAMDRIZE_PREVIEW_RECORDS);
     printf("last serial: %d\n", FAMDRIZE_LAST_SERIAL);
     printf("an open guard: %u\n", FAMDRIZE_OPEN_GUARD);
     printf("barred: %u\n", FAMDRIZE_BARRED);

@@ -23,6 +23,17 @@ static void print_interval(const char *name, famdrize_interval i)
     putchar('\n');
 }
 
+static void print_report(const char *name, famdrize_report r)
+{
+    printf("%s %u %u %u: %s\n", name, (unsigned)r.why, (unsigned)r.records, (unsigned)r.place, famdrize_why_words(r.why));
+}
+
+static void print_replies(const uint32_t *replies, size_t words)
+{
+    for (size_t i = 0; i < words; i += FAMDRIZE_REPLY_WORDS)
+        printf("reply %u %u %u\n", (unsigned)replies[i], (unsigned)replies[i + 1], (unsigned)replies[i + 2]);
+}
+
 static famdrize_reply step(uint8_t kind, uint8_t player, uint8_t entry, uint16_t high, uint32_t value, uint32_t serial)
 {
     return famdrize_step(store, FAMDRIZE_STORE_WORDS, players, FAMDRIZE_PLAYERS_WORDS, kind, player, entry, high, value, serial);
@@ -51,6 +62,47 @@ static void steps(void)
     print("kind 200", step(200, 0, 0, 0, 0, 0));
     print("check", famdrize_check(store, FAMDRIZE_STORE_WORDS, players, FAMDRIZE_PLAYERS_WORDS));
     print("check one word less", famdrize_check(store, FAMDRIZE_STORE_WORDS - 1, players, FAMDRIZE_PLAYERS_WORDS));
+}
+
+static famdrize_reply preview(uint8_t kind, uint8_t player, uint8_t entry, uint16_t high, uint32_t value, uint32_t serial)
+{
+    return famdrize_preview(store, FAMDRIZE_STORE_WORDS, players, FAMDRIZE_PLAYERS_WORDS, kind, player, entry, high, value, serial);
+}
+
+/* What a step would reply: nothing is altered, so that the step then replies the same. */
+static void previews(void)
+{
+    print("fresh", famdrize_fresh(store, FAMDRIZE_STORE_WORDS, players, FAMDRIZE_PLAYERS_WORDS));
+    print("preview assign", preview(FAMDRIZE_ASSIGN, 0, 40, 60, 0, 0));
+    print("assign", step(FAMDRIZE_ASSIGN, 0, 40, 60, 0, 0));
+    print("preview write", preview(FAMDRIZE_WRITE, 0, 45, 0, 7, 0)); /* a guard is to be asked for first */
+    print("preview request guard", preview(FAMDRIZE_REQUEST_GUARD, 0, 40, 60, 0, 0));
+    print("preview kind 200", preview(200, 0, 0, 0, 0, 0));
+    print("preview split, one word less",
+          famdrize_preview(store, FAMDRIZE_STORE_WORDS - 1, players, FAMDRIZE_PLAYERS_WORDS, FAMDRIZE_SPLIT, 0, 128, 0, 0, 0));
+}
+
+static famdrize_report preview_run(const uint8_t *session, size_t bytes, uint32_t budget, uint32_t *replies, size_t words)
+{
+    return famdrize_preview_run(store, FAMDRIZE_STORE_WORDS, players, FAMDRIZE_PLAYERS_WORDS, session, bytes, budget, replies, words);
+}
+
+/* What a run over 17 splits would report: at most 16 are looked at, whatever the budget; of a budget of 2, the replies too. */
+static void run_previews(void)
+{
+    enum { RECORDS = FAMDRIZE_PREVIEW_RECORDS + 1, SPLIT_BYTES = 3, WORDS = RECORDS * FAMDRIZE_REPLY_WORDS, FEW = 3 * FAMDRIZE_REPLY_WORDS };
+    uint8_t session[FAMDRIZE_MARK_BYTES + RECORDS * SPLIT_BYTES];
+    uint32_t replies[WORDS], few[FEW] = {7, 7, 7, 7, 7, 7, 7, 7, 7};
+    uint8_t *record = session + FAMDRIZE_MARK_BYTES;
+
+    famdrize_put_mark(session, sizeof session);
+    for (uint8_t entry = 1; entry <= RECORDS; entry++, record += SPLIT_BYTES)
+        famdrize_encode(FAMDRIZE_SPLIT, 0, entry, 0, 0, 0, record, SPLIT_BYTES);
+    print_report("preview", preview_run(session, sizeof session, UINT32_MAX, replies, WORDS));
+    print_report("preview", preview_run(session, sizeof session, 2, few, FEW));
+    print_replies(few, FEW);
+    print_report("preview without the mark", preview_run(session + 1, sizeof session - 1, 2, few, FEW));
+    print("merge", step(FAMDRIZE_MERGE, 0, 1, 0, 0, 0)); /* no split was taken */
 }
 
 static void store_alone(void)
@@ -117,19 +169,19 @@ static void run(void)
                                       0x21, 0x06, 0x02, 0x00, 0x00, 0x00};   /* arrive */
     enum { PLACES = 3, WORDS = PLACES * FAMDRIZE_REPLY_WORDS };
     uint32_t replies[WORDS] = {0};
-    famdrize_report r;
 
     famdrize_fresh(store, FAMDRIZE_STORE_WORDS, players, FAMDRIZE_PLAYERS_WORDS);
-    r = famdrize_run(store, FAMDRIZE_STORE_WORDS, players, FAMDRIZE_PLAYERS_WORDS, session, sizeof session, 2, replies, WORDS);
-    printf("run %u %u %u: %s\n", (unsigned)r.why, (unsigned)r.records, (unsigned)r.place, famdrize_why_words(r.why));
-    for (size_t i = 0; i < WORDS; i += FAMDRIZE_REPLY_WORDS)
-        printf("reply %u %u %u\n", (unsigned)replies[i], (unsigned)replies[i + 1], (unsigned)replies[i + 2]);
+    print_report("run", famdrize_run(store, FAMDRIZE_STORE_WORDS, players, FAMDRIZE_PLAYERS_WORDS, session, sizeof session, 2, replies, WORDS));
+    print_replies(replies, WORDS);
 }
 
 int main(void)
 {
     puts("steps");
     steps();
+    puts("previews");
+    previews();
+    run_previews();
     puts("the store alone");
     store_alone();
     puts("records");

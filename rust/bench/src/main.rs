@@ -215,11 +215,16 @@ fn stacks() {
     let mut checks = works::calls();
     checks.retain(|work| matches!(work.act, works::Act::Check));
     let mut runs = works::kinds();
-    let steps: Vec<Work> = runs.iter().map(Work::by_step).collect();
+    let by_calls = |act| runs.iter().map(|run| run.by_calls(act)).collect();
+    let steps: Vec<Work> = by_calls(works::Act::Steps);
+    let previews: Vec<Work> = by_calls(works::Act::Previews);
     runs.extend(works::sessions());
+    let run_previews: Vec<Work> = runs.iter().filter_map(Work::preview).collect();
     row("check", &checks);
     row("step, all kinds above", &steps);
     row("run, all sessions above", &runs);
+    row("preview, all kinds above", &previews);
+    row("preview of a run, all sessions above", &run_previews);
     print!("{:<40}", "fresh");
     for (_, library) in libraries() {
         let (mut store, mut players) = (vec![0; STORE_WORDS], vec![0; PLAYERS_WORDS]);

@@ -1,6 +1,6 @@
 //! What is measured: start tables, and a session or a call on them.
 
-use calls::{Fields, Library, Range, Step};
+use calls::{Fields, Library, Range, Reply, Step};
 use model::codec::{self, MARK, MAX_SESSION};
 use model::faults::NoFault;
 use model::generate::Profile;
@@ -29,8 +29,12 @@ pub struct Work {
 pub enum Act {
     /// A run. With `less_empty` the figure is what it takes beyond a run over no record.
     Run { session: Vec<u8>, less_empty: bool },
+    /// The preview of a run.
+    PreviewRun(Vec<u8>),
     /// Calls of step, which test the tables each time.
     Steps(Vec<Fields>),
+    /// Previews of steps, which do so too.
+    Previews(Vec<Fields>),
     /// The test of the tables.
     Check,
 }
@@ -72,11 +76,12 @@ impl Work {
                 let session = if empty { &MARK[..] } else { session };
                 library.run(store, players, session, 16_384, list).records
             }
-            Act::Steps(steps) => {
-                let steps = steps.iter();
-                let codes = steps.map(|&step| library.step(store, players, step).code);
-                codes.fold(0, |sum, code| sum ^ code)
+            Act::PreviewRun(session) => {
+                let report = library.preview_run(store, players, session, 16_384, list);
+                report.records
             }
+            Act::Steps(steps) => codes(steps, |step| library.step(store, players, step)),
+            Act::Previews(steps) => codes(steps, |step| library.preview(store, players, step)),
             Act::Check => library.check(store, players).code,
         }
     }
@@ -89,7 +94,7 @@ impl Work {
     /// Its steps, by their fields.
     fn steps(&self) -> Vec<Fields> {
         match &self.act {
-            Act::Run { session, .. } => {
+            Act::Run { session, .. } | Act::PreviewRun(session) => {
                 let mut steps = Vec::new();
                 let mut rest = &session[MARK.len()..];
                 while let Ok((step, length)) = codec::decode(rest) {
@@ -98,7 +103,7 @@ impl Work {
                 }
                 steps
             }
-            Act::Steps(steps) => steps.clone(),
+            Act::Steps(steps) | Act::Previews(steps) => steps.clone(),
             Act::Check => Vec::new(),
         }
     }
@@ -109,16 +114,30 @@ impl Work {
         self.steps().iter().all(|step| step.kind <= kinds)
     }
 
-    /// The first steps of a run's session as calls of step.
-    pub fn by_step(&self) -> Work {
-        let mut steps = self.steps();
-        steps.truncate(64);
+    /// Another act on the same tables.
+    fn with(&self, act: Act, each: u32) -> Work {
         Work {
             name: self.name.clone(),
-            each: steps.len() as u32,
-            act: Act::Steps(steps),
+            each,
+            act,
             store: self.store.clone(),
             players: self.players.clone(),
+        }
+    }
+
+    /// The first steps of a run's session, each by a call: [`Act::Steps`] or [`Act::Previews`].
+    pub fn by_calls(&self, act: fn(Vec<Fields>) -> Act) -> Work {
+        let mut steps = self.steps();
+        steps.truncate(64);
+        let each = steps.len() as u32;
+        self.with(act(steps), each)
+    }
+
+    /// The preview of a run; none where the work is no run.
+    pub fn preview(&self) -> Option<Work> {
+        match &self.act {
+            Act::Run { session, .. } => Some(self.with(Act::PreviewRun(session.clone()), 1)),
+            _ => None,
         }
     }
 
@@ -153,6 +172,11 @@ impl Work {
         };
         Work::new(name, &state, act, steps.len() as u32)
     }
+}
+
+/// Something that takes all the codes into account.
+fn codes(steps: &[Fields], mut call: impl FnMut(Fields) -> Reply) -> u32 {
+    steps.iter().fold(0, |sum, &step| sum ^ call(step).code)
 }
 
 fn assign(player: u8, low: u8, high: u16) -> Step {
@@ -332,7 +356,7 @@ pub fn sessions() -> Vec<Work> {
     ]
 }
 
-/// Single calls that test the tables.
+/// Single calls that test the tables; a preview behind what it is the preview of.
 pub fn calls() -> Vec<Work> {
     let mut full = State::fresh();
     full.last_serial = MAX_SERIAL;
@@ -346,35 +370,80 @@ pub fn calls() -> Vec<Work> {
         );
         full.last_serial = serial;
     }
+    let (player, entry) = (0, 0);
+    let read = Step::Read { player, entry };
     let memory = [
         assign(0, 0, 1),
         ask(0, 1),
         deliver(2),
         respond(2),
-        Step::Read {
-            player: 0,
-            entry: 0,
-        },
+        read,
         deliver(3),
         respond(3),
     ];
     let (_, cached) = play(&memory, &NoFault);
-    let read = Fields::from(memory[4]);
-    let split = Fields::from(Step::Split { entry: 9 });
-    let merge = Fields::from(Step::Merge { entry: 9 });
+    let split = Step::Split { entry: 9 };
+    let merge = Step::Merge { entry: 9 };
+    // A preview leaves the boundary where it is, so that it has another one to remove.
+    let (_, divided) = play(&joined(&[&memory, &[Step::Split { entry: 10 }]]), &NoFault);
+    let previewed = [split, Step::Merge { entry: 10 }];
+    let value = 7;
+    let write = Step::Write {
+        player,
+        entry,
+        value,
+    };
+    let restart = Step::RestartPlayer { player: 1 };
+    let more = [
+        read,
+        write,
+        deliver(4),
+        respond(4),
+        read,
+        split,
+        merge,
+        restart,
+        read,
+    ];
+    let run = Work::new(
+        "run of 16 records",
+        &State::fresh(),
+        Act::Run {
+            session: codec::session(&joined(&[&memory, &more])),
+            less_empty: false,
+        },
+        1,
+    );
+    let run_preview = Work {
+        name: "preview of a run of 16 records".to_string(),
+        ..run.preview().expect("a run")
+    };
+    let ten = |name: &str, state: &State, steps: &[Step], act: fn(Vec<Fields>) -> Act| {
+        let steps = steps.iter().cycle().take(10);
+        let fields = steps.map(|&step| Fields::from(step)).collect();
+        Work::new(name, state, act(fields), 10)
+    };
+    let (steps, previews) = (Act::Steps, Act::Previews);
+    let refused = [respond(3)];
     vec![
-        Work::new(
-            "step: 4 read, from memory",
-            &cached,
-            Act::Steps(vec![read; 10]),
-            10,
-        ),
-        Work::new(
+        ten("step: 4 read, from memory", &cached, &[read], steps),
+        ten("preview: 4 read, from memory", &cached, &[read], previews),
+        ten(
             "step: 10 split and 11 merge",
             &cached,
-            Act::Steps([split, merge].repeat(5)),
-            10,
+            &[split, merge],
+            steps,
         ),
+        ten(
+            "preview: 10 split and 11 merge",
+            &divided,
+            &previewed,
+            previews,
+        ),
+        ten("step: 7 answer, refused", &cached, &refused, steps),
+        ten("preview: 7 answer, refused", &cached, &refused, previews),
+        run,
+        run_preview,
         Work::new("check, fresh tables", &State::fresh(), Act::Check, 1),
         Work::new("check, 64 requests", &full, Act::Check, 1),
         Work::new("check, full tables", &full_state(), Act::Check, 1),

@@ -141,6 +141,9 @@ pub struct Request {
     pub second: u32,
 }
 
+/// The most records that the default of [`Library::preview_run`] takes.
+const PREVIEW_RECORDS: u32 = 16;
+
 /// The calls. Slices of any length and contents are taken.
 pub trait Library {
     /// The kinds that it knows are 1 up to this one; a later kind is 26 to it.
@@ -164,6 +167,25 @@ pub trait Library {
         budget: u32,
         replies: &mut [u32],
     ) -> Report;
+    /// The reply that [`Library::step`] would give, and both tables kept. The default takes the step on
+    /// copies of them.
+    fn preview(&self, store: &[u32], players: &[u32], step: Fields) -> Reply {
+        self.step(&mut store.to_vec(), &mut players.to_vec(), step)
+    }
+    /// The report and the replies of [`Library::run`], where a budget above 16 counts as 16, and both
+    /// tables kept. The default runs on copies of them.
+    fn preview_run(
+        &self,
+        store: &[u32],
+        players: &[u32],
+        session: &[u8],
+        budget: u32,
+        replies: &mut [u32],
+    ) -> Report {
+        let (mut store, mut players) = (store.to_vec(), players.to_vec());
+        let budget = budget.min(PREVIEW_RECORDS);
+        self.run(&mut store, &mut players, session, budget, replies)
+    }
     /// The record that stands at the start of the bytes.
     fn decode(&self, part: &[u8]) -> Decoded;
     /// Writes a step's record: 26 and 27 as in [`Library::step`], then 36.

@@ -1,6 +1,6 @@
 //! One case: start tables and what is called; and how library and model differ on it.
 
-use calls::{Fields, Library, Reply, Request, Step, KINDS};
+use calls::{Fields, Library, Reply, Report, Request, Step, KINDS};
 use model::codec::{self, MARK};
 use model::numbers::MAX_SERIAL;
 use model::reply::code;
@@ -10,7 +10,7 @@ use model::tables::{self, decode_store, tables_of};
 
 use crate::cells::{Call, Counts, FIND_INTERVAL};
 use crate::oracle::RIGHT;
-use crate::situations::{OnLoad, Situation};
+use crate::situations::{OnLoad, PreviewEnd, Situation};
 
 /// What is called.
 #[derive(Clone, Debug)]
@@ -18,11 +18,11 @@ use crate::situations::{OnLoad, Situation};
 pub enum Act {
     Fresh,
     Check,
-    /// Steps one after the other, each by a call; both tables are compared after each.
+    /// Steps one after the other, each previewed and then taken; both tables are compared after each call.
     Steps(Vec<Step>),
-    /// One step by any fields.
+    /// One step by any fields, previewed and then taken.
     Fields(Fields),
-    /// A run with a list of this many words.
+    /// A run with a list of this many words, previewed twice and then taken.
     Run {
         session: Vec<u8>,
         budget: u32,
@@ -176,6 +176,22 @@ fn replies_differ(library: Reply, model: Reply) -> Option<String> {
     numbers_differ(&numbers(library), &numbers(model))
 }
 
+/// What a run, or its preview, reports and leaves of its list.
+fn runs_differ(told: Report, report: Report, said: &[u32], expected: &[u32]) -> Option<String> {
+    (told != report)
+        .then(|| format!("report: library {told:?}, model {report:?}"))
+        .or_else(|| first_difference("list of replies, word", said, expected))
+}
+
+fn tables_differ(lent: (&[u32], &[u32]), right: (&[u32], &[u32])) -> Option<String> {
+    first_difference("store's table, word", lent.0, right.0)
+        .or_else(|| first_difference("players' table, word", lent.1, right.1))
+}
+
+fn of_preview(what: String) -> String {
+    format!("preview, {what}")
+}
+
 impl Case {
     /// A case that begins with fresh tables.
     pub fn fresh(act: Act) -> Case {
@@ -201,7 +217,7 @@ impl Case {
         Some(Difference { after, what })
     }
 
-    /// Steps one after the other: after each one the reply and both tables.
+    /// Steps one after the other: of each one and of its preview the reply and both tables.
     fn steps_differ(
         &self,
         steps: &[Step],
@@ -212,6 +228,8 @@ impl Case {
         let mut state = tables::decode(&self.store, &self.players);
         let mut right = (self.store.clone(), self.players.clone());
         for (at, &step) in steps.iter().enumerate() {
+            let previewed = library.preview(&store, &players, step.into());
+            let altered = tables_differ((&store, &players), (&right.0, &right.1));
             let model = match &mut state {
                 Ok(state) => {
                     let (reply, found) = right_step(state, step);
@@ -223,12 +241,15 @@ impl Case {
                 }
                 Err(error) => Reply::from(error.refusal()),
             };
+            counts.note(Call::Preview(step.kind()), model.code);
             counts.note(Call::Step(step.kind()), model.code);
             counts.steps += 1;
-            let said = library.step(&mut store, &mut players, step.into());
-            let what = replies_differ(said, model)
-                .or_else(|| first_difference("store's table, word", &store, &right.0))
-                .or_else(|| first_difference("players' table, word", &players, &right.1));
+            let preview = replies_differ(previewed, model).or(altered);
+            let what = preview.map(of_preview).or_else(|| {
+                let said = library.step(&mut store, &mut players, step.into());
+                replies_differ(said, model)
+                    .or_else(|| tables_differ((&store, &players), (&right.0, &right.1)))
+            });
             if let Some(what) = what {
                 return Some(Difference {
                     after: at + 1,
@@ -239,10 +260,52 @@ impl Case {
         None
     }
 
-    /// One call: what it gives, and what it leaves of all it is lent.
+    /// The preview of a step by its fields, or of a run: what it gives, and that it alters neither of the
+    /// lent tables. Once more into the same list, that of a run changes nothing.
+    fn preview_differs(
+        &self,
+        library: &impl Library,
+        lent: (&[u32], &[u32]),
+        counts: &mut Counts,
+    ) -> Option<String> {
+        let model = RIGHT;
+        let (store, players) = (&self.store[..], &self.players[..]);
+        let altered = || tables_differ(lent, (store, players));
+        let what = match &self.act {
+            Act::Fields(fields) => {
+                let expected = model.preview(store, players, *fields);
+                counts.note(Call::Preview(in_force(fields.kind)), expected.code);
+                let said = library.preview(lent.0, lent.1, *fields);
+                replies_differ(said, expected).or_else(altered)
+            }
+            Act::Run {
+                session,
+                budget,
+                list,
+            } => {
+                let (mut said, mut expected) = (poisoned_words(*list), poisoned_words(*list));
+                let report = model.preview_run(store, players, session, *budget, &mut expected);
+                counts.note(Call::PreviewRun, report.why);
+                let ends = PreviewEnd::of(session, *budget, report);
+                counts.note_situations(ends.into_iter().map(Situation::Preview));
+                (0..2).find_map(|_| {
+                    let told = library.preview_run(lent.0, lent.1, session, *budget, &mut said);
+                    runs_differ(told, report, &said, &expected).or_else(altered)
+                })
+            }
+            _ => None,
+        };
+        what.map(of_preview)
+    }
+
+    /// One call, after its preview if it has one: what it gives, and what it leaves of all it is lent.
     fn call_differs(&self, library: &impl Library, counts: &mut Counts) -> Option<String> {
         let model = RIGHT;
         let (mut store, mut players) = (self.store.clone(), self.players.clone());
+        let preview = self.preview_differs(library, (&store, &players), counts);
+        if preview.is_some() {
+            return preview;
+        }
         let mut right = (self.store.clone(), self.players.clone());
         let what = match &self.act {
             Act::Steps(_) => None,
@@ -272,10 +335,7 @@ impl Case {
                 counts.note(Call::Run, report.why);
                 counts.steps += u64::from(report.records);
                 let told = library.run(&mut store, &mut players, session, *budget, &mut said);
-                let differs = told != report;
-                differs
-                    .then(|| format!("report: library {told:?}, model {report:?}"))
-                    .or_else(|| first_difference("list of replies, word", &said, &expected))
+                runs_differ(told, report, &said, &expected)
             }
             Act::Decode(part) => {
                 let expected = model.decode(part);
@@ -318,8 +378,7 @@ impl Case {
                 numbers_differ(&on_store(library, &mut store, *call).1, &expected)
             }
         };
-        what.or_else(|| first_difference("store's table, word", &store, &right.0))
-            .or_else(|| first_difference("players' table, word", &players, &right.1))
+        what.or_else(|| tables_differ((&store, &players), (&right.0, &right.1)))
     }
 }
 

@@ -21,7 +21,10 @@ pub const LOAD: u8 = Step::Load { entry: 0, value: 0 }.kind();
 pub enum Call {
     /// A step of this kind; 0 stands for those not in force.
     Step(u8),
+    /// The preview of such a step.
+    Preview(u8),
     Run,
+    PreviewRun,
     Decode,
     /// A record of this kind written; 0 stands for those not in force.
     Encode(u8),
@@ -46,27 +49,33 @@ impl Call {
     /// The kind that a library must know to have this call, 0 for none.
     pub fn needs(self) -> u8 {
         match self {
-            Call::Step(kind) | Call::Encode(kind) => kind,
+            Call::Step(kind) | Call::Preview(kind) | Call::Encode(kind) => kind,
             Call::StoreFindInterval => FIND_INTERVAL,
             _ => 0,
         }
     }
 }
 
-/// What a step of each kind can reply beside what its rules give: the tests of the tables, and 27.
+/// What a step of each kind, and its preview, can reply beside what its rules give: the tests of the
+/// tables, and 27.
 const OF_EVERY_STEP: [u32; 3] = [21, 22, 27];
 
 /// "36 a buffer shorter than the record to be written", and 27.
 const OF_EVERY_RECORD: [u32; 3] = [0, 27, 36];
+
+/// "Why: 0 at the end, else 9 ..., else the record's refusal"; "For a run: 21, 22, 37, 23".
+const OF_EVERY_RUN: &[u32] = &[0, 9, 21, 22, 23, 24, 25, 26, 27, 37];
 
 /// What each other call can reply. A run's reply is why it stopped; [`Call::Marked`] gives 0 or 1;
 /// the two of `store_write` and `store_set_guard` that differ in the first number are situations.
 const OTHERS: &[(Call, &[u32])] = &[
     // Document 02 §1: "26 means a kind not in force".
     (Call::Step(0), &[26]),
+    (Call::Preview(0), &[26]),
     (Call::Encode(0), &[26]),
-    // "Why: 0 at the end, else 9 ..., else the record's refusal"; "For a run: 21, 22, 37, 23".
-    (Call::Run, &[0, 9, 21, 22, 23, 24, 25, 26, 27, 37]),
+    (Call::Run, OF_EVERY_RUN),
+    // Document 02 §4: "previewed likewise, with its report and replies".
+    (Call::PreviewRun, OF_EVERY_RUN),
     // "For a record: 24 if empty, 25, 24, 27 if kind is missing, 26, 27."
     (Call::Decode, &[0, 24, 25, 26, 27]),
     (Call::PutMark, &[0, 36]),
@@ -124,9 +133,12 @@ pub struct Counts {
 
 impl Default for Counts {
     fn default() -> Counts {
-        let steps = (1..).zip(REPLIES).map(|(kind, replies)| {
-            let can = [replies, &OF_EVERY_STEP].concat();
-            Row::new(Call::Step(kind), can)
+        // Document 02 §4: a preview "gives that reply, for every kind and refusal".
+        let steps = [Call::Step, Call::Preview].into_iter().flat_map(|call| {
+            (1..).zip(REPLIES).map(move |(kind, replies)| {
+                let can = [replies, &OF_EVERY_STEP].concat();
+                Row::new(call(kind), can)
+            })
         });
         let records =
             (1..=KINDS).map(|kind| Row::new(Call::Encode(kind), OF_EVERY_RECORD.to_vec()));
@@ -146,8 +158,9 @@ impl Counts {
     /// The place of a call's row.
     fn row(&self, call: Call) -> Option<usize> {
         match call {
-            // The steps stand first, so that the row is found at once.
+            // The steps stand first and then their previews, so that the row is found at once.
             Call::Step(kind @ 1..=KINDS) => Some(usize::from(kind) - 1),
+            Call::Preview(kind @ 1..=KINDS) => Some(usize::from(KINDS + kind) - 1),
             other => self.rows.iter().position(|row| row.call == other),
         }
     }
@@ -224,6 +237,8 @@ pub fn name(call: Call) -> String {
     match call {
         Call::Step(0) => "step of no kind".into(),
         Call::Step(kind) => format!("step {kind}"),
+        Call::Preview(0) => "preview no kind".into(),
+        Call::Preview(kind) => format!("preview {kind}"),
         Call::Encode(0) => "encode no kind".into(),
         Call::Encode(kind) => format!("encode {kind}"),
         other => format!("{other:?}"),

@@ -7,9 +7,9 @@
 //! | `case` | one case: start tables and what is called; how library and model differ on it |
 //! | `shrink` | a failing case made small, and printed as a session file |
 //! | `cells` | which replies each call can give, written down from the documents, and counts of them |
-//! | `situations` | what else must occur: sorts of guards and guard intervals, loads, broken tables |
+//! | `situations` | what else must occur: sorts of guards and guard intervals, loads, broken tables, ends of previews |
 //! | `suites` | the cases, in groups |
-//! | `wrong` | libraries that are wrong in one point each, to show that the comparison sees it |
+//! | `wrong`, `wrong_previews` | libraries that are wrong in one point each, to show that the comparison sees it |
 
 #![forbid(unsafe_code)]
 #![warn(missing_docs)]
@@ -21,3 +21,4 @@ pub mod shrink;
 pub mod situations;
 pub mod suites;
 pub mod wrong;
+pub mod wrong_previews;

@@ -2,7 +2,7 @@
 
 use calls::{Decoded, Fields, Interval, Library, Range, Reply, Report, Request, Step};
 use model::faults::{NoFault, Switches};
-use model::{codec, lent, run, store_calls, tables};
+use model::{codec, lent, preview, run, store_calls, tables};
 
 /// The model; with a fault in place of [`NoFault`] it is wrong in that point.
 #[derive(Clone, Copy, Debug)]
@@ -37,6 +37,25 @@ impl<S: Switches> Library for Model<S> {
         replies: &mut [u32],
     ) -> Report {
         run::run(store, players, session, budget, replies)
+    }
+
+    fn preview(&self, store: &[u32], players: &[u32], step: Fields) -> Reply {
+        match Step::try_from(step) {
+            Ok(step) => preview::step(store, players, step, &self.0),
+            Err(number) => Reply::refused(number),
+        }
+    }
+
+    /// By the right rules, as the run.
+    fn preview_run(
+        &self,
+        store: &[u32],
+        players: &[u32],
+        session: &[u8],
+        budget: u32,
+        replies: &mut [u32],
+    ) -> Report {
+        preview::run(store, players, session, budget, replies)
     }
 
     fn decode(&self, part: &[u8]) -> Decoded {

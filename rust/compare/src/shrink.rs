@@ -114,7 +114,7 @@ fn smaller_run(
         attempt.act = run(bytes.to_vec(), budget, list);
         fails(&attempt)
     });
-    let smaller = [0, 1, 2, 3, 4, 6, 9, 12, 30, 100, 300, 1_000];
+    let smaller = [0, 1, 2, 3, 4, 6, 9, 12, 17, 30, 51, 100, 300, 1_000];
     let mut least = (budget, list);
     for words in smaller.into_iter().filter(|&words| words < list) {
         attempt.act = run(bytes.clone(), budget, words);

@@ -1,10 +1,15 @@
 //! Situations that must occur, beside the replies: what kinds of guards, guard intervals, loads and
-//! broken tables a call meets.
+//! broken tables a call meets, and where the preview of a run ends.
 
-use calls::Step;
+use std::cmp::Ordering;
+
+use calls::{Report, Step};
 use model::broken::SERIAL_RULES;
+use model::codec;
 use model::faults::NoFault;
 use model::numbers::{BARRED, OPEN};
+use model::preview::MOST_RECORDS;
+use model::run::{AT_END, SPENT};
 use model::state::{Operation, Request, State};
 use model::store::{Store, WriteOutcome};
 use model::table_rules::TableRule;
@@ -227,6 +232,67 @@ fn on_its_way(store: &Store, load: &Request, step: Step) -> Option<OnLoad> {
     }
 }
 
+/// Where the preview of a run ends, which takes 16 records at the most.
+#[derive(Clone, Copy, Debug, PartialEq, Eq)]
+pub enum PreviewEnd {
+    /// At the session's end, after fewer than 16 records.
+    Before16,
+    /// At the session's end, after 16 records.
+    At16,
+    /// After 16 records of more, with a budget above 16.
+    BudgetAbove16,
+    /// After 16 records of more, with a budget of 16.
+    BudgetOf16,
+    /// With a budget below 16 that is spent.
+    BudgetBelow16,
+    /// With a list that is spent before the budget, and before 16 records.
+    ListSpent,
+    /// After 16 records, before a bad one: 9, and not its number.
+    BeforeBadRecord,
+    /// At a bad record among the first 16.
+    AtBadRecord,
+}
+
+impl PreviewEnd {
+    const ALL: [PreviewEnd; 8] = [
+        PreviewEnd::Before16,
+        PreviewEnd::At16,
+        PreviewEnd::BudgetAbove16,
+        PreviewEnd::BudgetOf16,
+        PreviewEnd::BudgetBelow16,
+        PreviewEnd::ListSpent,
+        PreviewEnd::BeforeBadRecord,
+        PreviewEnd::AtBadRecord,
+    ];
+
+    /// Where the preview of a run over this session ended that gave this report; nowhere, if it was refused.
+    pub fn of(session: &[u8], budget: u32, report: Report) -> Vec<PreviewEnd> {
+        let Report {
+            why,
+            records,
+            place,
+        } = report;
+        let end = match why {
+            AT_END if records < MOST_RECORDS => PreviewEnd::Before16,
+            AT_END => PreviewEnd::At16,
+            SPENT if records < budget.min(MOST_RECORDS) => PreviewEnd::ListSpent,
+            SPENT => match budget.cmp(&MOST_RECORDS) {
+                Ordering::Less => PreviewEnd::BudgetBelow16,
+                Ordering::Equal => PreviewEnd::BudgetOf16,
+                Ordering::Greater => PreviewEnd::BudgetAbove16,
+            },
+            _ if place == 0 => return Vec::new(),
+            _ => PreviewEnd::AtBadRecord,
+        };
+        let mut ends = vec![end];
+        let is_next_bad = || codec::decode(&session[place as usize..]).is_err();
+        if why == SPENT && records == MOST_RECORDS && is_next_bad() {
+            ends.push(PreviewEnd::BeforeBadRecord);
+        }
+        ends
+    }
+}
+
 /// A situation.
 #[derive(Clone, Copy, Debug, PartialEq, Eq)]
 pub enum Situation {
@@ -239,6 +305,8 @@ pub enum Situation {
     Interval(Call, Shape),
     /// A step on loads, or beside one.
     Load(OnLoad),
+    /// The preview of a run that ends so.
+    Preview(PreviewEnd),
     /// A table that breaks this rule alone.
     Broken(TableRule),
     /// A table that breaks this rule alone, as barred stands where a serial may.
@@ -268,6 +336,7 @@ impl Situation {
             all.extend(Shape::ALL.map(|shape| Situation::Interval(call, shape)));
         }
         all.extend(OnLoad::ALL.map(Situation::Load));
+        all.extend(PreviewEnd::ALL.map(Situation::Preview));
         all.extend(TableRule::ALL.map(Situation::Broken));
         all.extend(SERIAL_RULES.map(Situation::BarredAs));
         all

@@ -5,6 +5,7 @@ use model::broken::{bar, break_rule, damage, SERIAL_RULES};
 use model::codec::{self, MARK, MAX_SESSION, RECORD_LENGTHS};
 use model::generate::{any_step, step_for, Profile};
 use model::numbers::{BARRED, MAX_REQUESTS, MAX_SERIAL, OPEN};
+use model::preview::MOST_RECORDS;
 use model::prng::Prng;
 use model::rules;
 use model::state::State;
@@ -191,7 +192,7 @@ pub fn run_to_failure<L: Library>(library: &L, plan: Plan, counts: &mut Counts) 
         .find(|outcome| outcome.failure.is_some())
 }
 
-fn groups<L: Library>() -> [(&'static str, Run<L>); 19] {
+fn groups<L: Library>() -> [(&'static str, Run<L>); 20] {
     [
         ("random sessions, step by step", sessions),
         ("near the last serial", late),
@@ -212,6 +213,7 @@ fn groups<L: Library>() -> [(&'static str, Run<L>); 19] {
         ("requests counted", waiting),
         ("the store alone", store_alone),
         ("each word in turn", each_word),
+        ("previews of runs around 16 records", previews),
     ]
 }
 
@@ -784,6 +786,31 @@ fn each_word(group: &mut Group<impl Library>) {
                     return;
                 }
             }
+        }
+    }
+}
+
+/// Sessions of about as many records as the preview of a run takes at the most, with budgets and lists for
+/// about as many; now and then the last record that it takes, or the next one, is damaged.
+fn previews(group: &mut Group<impl Library>) {
+    let most = MOST_RECORDS as usize;
+    for _ in 0..group.plan.share(5_000) {
+        let state = start(&mut group.rng);
+        let near = |rng: &mut Prng| most - 3 + rng.index(7);
+        let length = near(&mut group.rng);
+        let steps = group.drawn(state.clone(), length);
+        let rng = &mut group.rng;
+        let mut records: Vec<Vec<u8>> = steps.into_iter().map(codec::record).collect();
+        let last = most - 1 + rng.index(2);
+        if let (true, Some(record)) = (rng.chance(40), records.get_mut(last)) {
+            damage(rng, record);
+            group.counts.damaged += 1;
+        }
+        let session = [MARK.to_vec(), records.concat()].concat();
+        let budget = [near(rng) as u32, MOST_RECORDS, MOST_RECORDS + 1, u32::MAX][rng.index(4)];
+        let list = 3 * near(rng) + rng.index(3);
+        if group.fails(case_from(&state, run_of(session, budget, list))) {
+            return;
         }
     }
 }

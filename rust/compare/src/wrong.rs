@@ -1,8 +1,9 @@
 //! Libraries that are wrong in one point each. They show what the comparison sees: every one of them
 //! must be caught, and the case it is caught on shrunk.
 //!
-//! Three sorts: the port behind a call that is wrong in a point ([`Point`]), the port with a test of
-//! the tables that misses one rule, and the model with one of its faults.
+//! Four sorts: the port behind a call that is wrong in a point ([`Point`]), or behind a preview that is
+//! ([`PreviewPoint`]), the port with a test of the tables that misses one rule, and the model with one of
+//! its faults.
 
 use calls::{Decoded, Fields, Library, Reply, Report, Request, KINDS};
 use model::faults::Fault;
@@ -13,6 +14,7 @@ use port::Port;
 use crate::cells::Counts;
 use crate::oracle::Model;
 use crate::suites::{run_to_failure, Outcome, Plan};
+use crate::wrong_previews::PreviewPoint;
 
 /// What is wrong.
 #[derive(Clone, Copy, Debug, PartialEq, Eq)]
@@ -160,8 +162,10 @@ impl Point {
 /// The port, wrong in a point, or with a test of the tables that misses a rule.
 #[derive(Clone, Copy, Debug)]
 pub enum Wrong {
-    /// Wrong in a point.
+    /// Wrong in a point. Its previews are right.
     In(Point),
+    /// Wrong in a point of its previews.
+    InPreview(PreviewPoint),
     /// The test of the tables lets a table by that breaks this rule.
     Misses(TableRule),
 }
@@ -369,6 +373,27 @@ impl Library for Wrong {
         report
     }
 
+    fn preview(&self, store: &[u32], players: &[u32], step: Fields) -> Reply {
+        match self {
+            Wrong::InPreview(point) => point.step(store, players, step),
+            _ => Port.preview(store, players, step),
+        }
+    }
+
+    fn preview_run(
+        &self,
+        store: &[u32],
+        players: &[u32],
+        session: &[u8],
+        budget: u32,
+        replies: &mut [u32],
+    ) -> Report {
+        match self {
+            Wrong::InPreview(point) => point.run(store, players, session, budget, replies),
+            _ => Port.preview_run(store, players, session, budget, replies),
+        }
+    }
+
     fn decode(&self, part: &[u8]) -> Decoded {
         let mut part = part.to_vec();
         if self.is(Point::HighBitsIgnored) {
@@ -515,6 +540,12 @@ pub fn try_all(plan: Plan, mut tell: impl FnMut(Tried)) {
         tell(Tried {
             name: format!("{point:?}"),
             caught: run_to_failure(&Wrong::In(point), plan, &mut counts),
+        });
+    }
+    for point in PreviewPoint::ALL {
+        tell(Tried {
+            name: format!("preview: {point:?}"),
+            caught: run_to_failure(&Wrong::InPreview(point), plan, &mut counts),
         });
     }
     // The group that breaks each rule alone sees these at once.

@@ -35,9 +35,10 @@ fn every_cell_is_filled() {
     run_all(&RIGHT, plan, &mut counts);
     let (_, wrong, cells) = counts.table(KINDS);
     assert!(wrong.is_empty(), "{wrong:?}");
-    assert_eq!(cells, 301);
+    assert_eq!(cells, 414);
     assert!(counts.seen(Call::Step(FIND_INTERVAL), 9) > 1_000);
     assert!(counts.seen(Call::Step(LOAD), 1) > 1_000);
+    assert!(counts.seen(Call::PreviewRun, 9) > 1_000);
 }
 
 /// Every library that is wrong in one point is caught, and the case is printed.
@@ -53,7 +54,9 @@ fn wrong_libraries_are_caught() {
         let outcome = outcome.unwrap_or_else(|| panic!("{} is not caught", library.name));
         let text = outcome.failure.unwrap_or_default();
         assert!(text.contains("library"), "{}: {text}", library.name);
+        let of_preview = library.name.starts_with("preview: ");
+        assert!(!of_preview || text.contains("preview, "), "{text}");
         tried += 1;
     });
-    assert_eq!(tried, 137);
+    assert_eq!(tried, 154);
 }

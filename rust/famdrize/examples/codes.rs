@@ -2,7 +2,7 @@
 //! numbers that the crate names. codes.txt is what it prints.
 
 use famdrize::{Reply, Why, BARRED, LOADER, MOST_RECORDS, OPEN_GUARD, PLAYERS_WORDS};
-use famdrize::{RECORD_BYTES, REQUESTS, SESSION_BYTES, STORE_WORDS};
+use famdrize::{PREVIEW_RECORDS, RECORD_BYTES, REQUESTS, SESSION_BYTES, STORE_WORDS};
 
 fn main() {
     println!("codes of replies and refusals");
@@ -25,6 +25,7 @@ fn main() {
     println!("bytes of the longest session: {SESSION_BYTES}");
     println!("bytes of the longest record: {RECORD_BYTES}");
     println!("most records of a session: {MOST_RECORDS}");
+    println!("most records of a preview: {PREVIEW_RECORDS}");
     println!("an open guard: {OPEN_GUARD}");
     println!("barred: {BARRED}");
     println!("the loader: {LOADER}");

@@ -24,6 +24,12 @@
 //! [`TablesMut`], [`StoreMut`] and [`SessionMut`] have the same calls over arrays and buffers that the caller lends, and need no heap; the
 //! crate is `no_std`. The words of a table change by calls alone in either form, so they keep their rules.
 //!
+//! # Trying a step first
+//!
+//! [`TablesMut::preview`] gives the reply that a step would get, [`TablesMut::preview_run`] the report and the replies of a run, of its first
+//! [`PREVIEW_RECORDS`] records; `Tables` has both. They alter nothing but the list for the replies, and take about 43.5 KB of stack, for copies
+//! of the tables.
+//!
 //! # Refusals
 //!
 //! A call that can be refused gives a [`Refusal`], and alters nothing then. A refused step is a [`Reply`] like another, since a session holds
@@ -46,6 +52,7 @@ pub mod raw;
 mod numbers;
 #[cfg(feature = "alloc")]
 mod owned;
+mod preview;
 mod reply;
 mod report;
 mod requests;
@@ -57,6 +64,7 @@ mod tables;
 pub use numbers::{Player, Range, Serial};
 #[cfg(feature = "alloc")]
 pub use owned::{Session, Store, Tables};
+pub use preview::PREVIEW_RECORDS;
 pub use reply::{Refusal, Reply};
 pub use report::{Report, Why};
 pub use requests::{pending, Request, LOADER, REQUESTS};

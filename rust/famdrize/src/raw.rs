@@ -134,6 +134,32 @@ extern "C" {
         replies: *mut u32,
         replies_words: usize,
     ) -> Report;
+    /// What [`famdrize_step`] would reply; neither table is altered. It takes about 43.5 KB of stack.
+    pub fn famdrize_preview(
+        store: *const u32,
+        store_words: usize,
+        players: *const u32,
+        players_words: usize,
+        kind: u8,
+        player: u8,
+        entry: u8,
+        high: u16,
+        value: u32,
+        serial: u32,
+    ) -> Reply;
+    /// What [`famdrize_run`] would report and reply, where a budget above 16 counts as 16; only the list is written. It takes about 43.5 KB of
+    /// stack.
+    pub fn famdrize_preview_run(
+        store: *const u32,
+        store_words: usize,
+        players: *const u32,
+        players_words: usize,
+        session: *const u8,
+        session_bytes: usize,
+        budget: u32,
+        replies: *mut u32,
+        replies_words: usize,
+    ) -> Report;
 
     /// The record at the start of these bytes.
     pub fn famdrize_decode(part: *const u8, part_bytes: usize) -> Decoded;

@@ -313,7 +313,7 @@ impl TryFrom<Fields> for Step {
 }
 
 #[cfg(test)]
-mod tests {
+pub(crate) mod tests {
     use super::*;
     use std::string::ToString;
 
@@ -353,7 +353,7 @@ mod tests {
         ]
     }
 
-    fn fields(n: [u32; 6]) -> Fields {
+    pub(crate) fn fields(n: [u32; 6]) -> Fields {
         Fields {
             kind: n[0].try_into().unwrap(),
             player: n[1].try_into().unwrap(),

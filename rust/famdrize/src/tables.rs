@@ -2,7 +2,7 @@
 
 use crate::reply::accepted;
 use crate::requests::in_table;
-use crate::{pending, raw, Fields, Player, Refusal, Reply, Report, Request, Step};
+use crate::{pending, preview, raw, Fields, Player, Refusal, Reply, Report, Request, Step};
 use crate::{REQUESTS, STORE_WORDS};
 
 /// Words of the players' table.
@@ -135,6 +135,55 @@ impl<'a> TablesMut<'a> {
             )
         };
         Report::of_run(report)
+    }
+
+    /// What a step would reply. Nothing is altered; it takes about 43.5 KB of stack, for copies of the tables.
+    ///
+    /// ```
+    /// use famdrize::{Refusal, Reply, Step, TablesMut};
+    /// # let (mut store, mut players) = ([0; famdrize::STORE_WORDS], [0; famdrize::PLAYERS_WORDS]);
+    /// # let mut tables = TablesMut::fresh(&mut store, &mut players);
+    ///
+    /// let split = Step::Split { entry: 128 };
+    /// assert_eq!(tables.preview(split), Reply::Done);
+    /// assert_eq!(tables.step(split), Reply::Done);
+    /// assert_eq!(tables.preview(split), Reply::Refused(Refusal::WrongBoundary));
+    /// ```
+    #[must_use = "a preview alters nothing"]
+    pub fn preview(&self, step: Step) -> Reply {
+        self.preview_fields(step.into())
+    }
+
+    /// What the step of these fields would reply, in the same way.
+    #[must_use = "a preview alters nothing"]
+    pub fn preview_fields(&self, fields: Fields) -> Reply {
+        preview::of_fields(self.store, self.players, fields)
+    }
+
+    /// What [`TablesMut::run`] would report, and reply to the records that it would take, where a budget above
+    /// [`PREVIEW_RECORDS`](crate::PREVIEW_RECORDS) counts as that many: with more records it is [`Why::Spent`](crate::Why). Nothing but the
+    /// list for the replies is altered, and where the run would be refused not even that. It takes about 43.5 KB of stack, for copies of the
+    /// tables.
+    ///
+    /// ```
+    /// use famdrize::{SessionMut, Step, TablesMut, Why};
+    /// # let (mut store, mut players) = ([0; famdrize::STORE_WORDS], [0; famdrize::PLAYERS_WORDS]);
+    /// # let tables = TablesMut::fresh(&mut store, &mut players);
+    ///
+    /// let mut buffer = [0; 64];
+    /// let mut session = SessionMut::new(&mut buffer)?;
+    /// for _ in 0..2 {
+    ///     session.push(Step::Split { entry: 128 })?;
+    /// }
+    /// let mut replies = [[0; 3]; 2];
+    /// let report = tables.preview_run(session.bytes(), u32::MAX, &mut replies);
+    /// assert_eq!(report.why, Why::End);
+    /// assert_eq!(replies, [[0, 0, 0], [35, 0, 0]]);
+    /// assert_eq!(tables.store_words()[128], 0);
+    /// # Ok::<(), famdrize::Refusal>(())
+    /// ```
+    pub fn preview_run(&self, session: &[u8], budget: u32, replies: &mut [[u32; 3]]) -> Report {
+        preview::of_run(self.store, self.players, session, budget, replies)
     }
 
     /// The last serial issued, 0 if none was.

@@ -1,6 +1,7 @@
 //! A target of libFuzzer: a session's bytes are run by the model, by the port and, where it is
-//! linked, by the proved library. Any difference in report, replies or tables aborts, with the
-//! smallest case printed. `tools/fuzz` builds and runs it; `docs/TESTING.md` says what guides it.
+//! linked, by the proved library, and each run is previewed first. Any difference in report, replies
+//! or tables aborts, with the smallest case printed. `tools/fuzz` builds and runs it; `docs/TESTING.md`
+//! says what guides it.
 
 #![no_main]
 
@@ -27,15 +28,16 @@ fn try_run(name: &str, library: &impl Library, case: &Case) {
 }
 
 /// Runs a session from fresh tables: with budget and list enough, then with as little of both as its
-/// last bytes say. The port, which knows the first kinds alone, runs it up to a record of another.
+/// last bytes say, at most a few records more than a preview takes. The port, which knows the first
+/// kinds alone, runs it up to a record of another.
 #[no_mangle]
 pub extern "C" fn LLVMFuzzerTestOneInput(data: *const u8, size: usize) -> i32 {
     // SAFETY: libFuzzer lends `size` bytes.
     let session = unsafe { std::slice::from_raw_parts(data, size) };
     let (last, before) = (session.last(), session.iter().nth_back(1));
     let few = (
-        u32::from(last.copied().unwrap_or(0)) % 16,
-        usize::from(before.copied().unwrap_or(0)) % 48,
+        u32::from(last.copied().unwrap_or(0)) % 20,
+        usize::from(before.copied().unwrap_or(0)) % 60,
     );
     let known = known_part(session, port::Port.kinds());
     for (budget, list) in [(16_384, 3 * 5_460), few] {

@@ -1,5 +1,6 @@
 //! An independent model of document 01, "Guards, players and cached reads in a reel store", and of the
-//! requests of document 02 that are in force: §1, how far a guard reaches; §2, loading before opening.
+//! requests of document 02 that are in force: §1, how far a guard reaches; §2, loading before opening;
+//! §4, trying a step first.
 //!
 //! It is written from the text of the documents alone, so that the proved library can be compared
 //! with it: reply for reply, and word for word of both tables. Sentences of document 01 stand in
@@ -27,6 +28,7 @@ pub mod ledger;
 pub mod lent;
 pub mod listing;
 pub mod numbers;
+pub mod preview;
 pub mod prng;
 pub mod reply;
 pub mod request_words;

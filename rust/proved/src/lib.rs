@@ -16,6 +16,14 @@ fn reply(said: raw::Reply) -> Reply {
     }
 }
 
+fn report(told: raw::Report) -> Report {
+    Report {
+        why: told.why,
+        records: told.records,
+        place: told.place,
+    }
+}
+
 fn request(request: &Request) -> raw::Request {
     raw::Request {
         serial: request.serial,
@@ -73,7 +81,7 @@ impl Library for Proved {
         budget: u32,
         replies: &mut [u32],
     ) -> Report {
-        let told = unsafe {
+        report(unsafe {
             raw::famdrize_run(
                 s.as_mut_ptr(),
                 s.len(),
@@ -85,12 +93,47 @@ impl Library for Proved {
                 replies.as_mut_ptr(),
                 replies.len(),
             )
-        };
-        Report {
-            why: told.why,
-            records: told.records,
-            place: told.place,
-        }
+        })
+    }
+
+    fn preview(&self, s: &[u32], p: &[u32], step: Fields) -> Reply {
+        reply(unsafe {
+            raw::famdrize_preview(
+                s.as_ptr(),
+                s.len(),
+                p.as_ptr(),
+                p.len(),
+                step.kind,
+                step.player,
+                step.entry,
+                step.high,
+                step.value,
+                step.serial,
+            )
+        })
+    }
+
+    fn preview_run(
+        &self,
+        s: &[u32],
+        p: &[u32],
+        session: &[u8],
+        budget: u32,
+        replies: &mut [u32],
+    ) -> Report {
+        report(unsafe {
+            raw::famdrize_preview_run(
+                s.as_ptr(),
+                s.len(),
+                p.as_ptr(),
+                p.len(),
+                session.as_ptr(),
+                session.len(),
+                budget,
+                replies.as_mut_ptr(),
+                replies.len(),
+            )
+        })
     }
 
     fn decode(&self, part: &[u8]) -> Decoded {

@@ -7,7 +7,7 @@ use alloc::vec::Vec;
 use super::{array, zeros};
 use crate::requests::in_table;
 use crate::tables::{last_serial, pending_in};
-use crate::{Fields, Player, Refusal, Reply, Report, Request, Step, TablesMut};
+use crate::{preview, Fields, Player, Refusal, Reply, Report, Request, Step, TablesMut};
 use crate::{MOST_RECORDS, PLAYERS_WORDS, STORE_WORDS};
 
 /// The store's table and the players', which keep their rules: the whole state. [`TablesMut`] is the same over lent tables.
@@ -100,6 +100,38 @@ impl Tables {
         (report, taken.map(Reply::of_step).collect())
     }
 
+    /// What a step would reply. Nothing is altered; it takes about 43.5 KB of stack, for copies of the tables.
+    ///
+    /// ```
+    /// use famdrize::{Player, Reply, Step, Tables};
+    ///
+    /// let mut tables = Tables::fresh();
+    /// let player = Player::try_from(0)?;
+    /// let read = Step::Read { player, entry: 45 };
+    /// assert_eq!(tables.preview(read), Reply::Issued { serial: 1 });
+    /// assert_eq!(tables.last_serial(), 0);
+    /// assert_eq!(tables.step(read), Reply::Issued { serial: 1 });
+    /// # Ok::<(), famdrize::Refusal>(())
+    /// ```
+    #[must_use = "a preview alters nothing"]
+    pub fn preview(&self, step: Step) -> Reply {
+        self.preview_fields(step.into())
+    }
+
+    /// What the step of these fields would reply, in the same way.
+    #[must_use = "a preview alters nothing"]
+    pub fn preview_fields(&self, fields: Fields) -> Reply {
+        preview::of_fields(&self.store, &self.players, fields)
+    }
+
+    /// What [`Tables::run`] would report, and reply to the records that it would take, where a budget above
+    /// [`PREVIEW_RECORDS`](crate::PREVIEW_RECORDS) counts as that many: with more records it is [`Why::Spent`](crate::Why). Nothing but the
+    /// list for the replies is altered, and where the run would be refused not even that. It takes about 43.5 KB of stack, for copies of the
+    /// tables.
+    pub fn preview_run(&self, session: &[u8], budget: u32, replies: &mut [[u32; 3]]) -> Report {
+        preview::of_run(&self.store, &self.players, session, budget, replies)
+    }
+
     /// The last serial issued, 0 if none was.
     #[must_use]
     pub fn last_serial(&self) -> u32 {
@@ -128,7 +160,7 @@ impl Default for Tables {
 #[cfg(test)]
 mod tests {
     use super::*;
-    use crate::{Range, Session, Why};
+    use crate::{Range, Session, Why, PREVIEW_RECORDS};
 
     fn stopped(why: Why, records: u32, place: u32) -> Report {
         Report {
@@ -351,6 +383,28 @@ mod tests {
     }
 
     #[test]
+    fn a_run_is_previewed_and_the_tables_stay() {
+        let tables = Tables::fresh();
+        let mut replies = [[5; 3]; 4];
+        assert_eq!(
+            tables.preview_run(session().bytes(), u32::MAX, &mut replies),
+            stopped(Why::End, 3, 20)
+        );
+        assert_eq!(replies, [[1, 1, 0], [1, 2, 0], [0, 0, 0], [5; 3]]);
+        assert_eq!(
+            tables.preview_run(session().bytes(), 1, &mut replies[1..]),
+            stopped(Why::Spent, 1, 10)
+        );
+        assert_eq!(replies, [[1, 1, 0], [1, 1, 0], [0, 0, 0], [5; 3]]);
+        assert_eq!(
+            tables.preview_run(&[], 9, &mut replies),
+            stopped(Why::Refused(Refusal::NoMark), 0, 0)
+        );
+        assert_eq!(replies[3], [5; 3]);
+        assert_eq!(tables, Tables::fresh());
+    }
+
+    #[test]
     fn a_refused_record_stops_the_run() {
         let mut bytes = session().bytes().to_vec();
         bytes.push(0x40);
@@ -486,7 +540,12 @@ mod tests {
         let (mut seed, mut codes) = (7, [false; 64]);
         let mut replies = vec![];
         let mut take = |owned: &mut Tables, fields: Fields| {
+            let before = owned.clone();
+            let previewed = owned.preview_fields(fields);
+            assert_eq!(lent.preview_fields(fields), previewed, "{fields}");
+            assert_eq!(*owned, before);
             let reply = owned.step_fields(fields);
+            assert_eq!(reply, previewed, "{fields}");
             assert_eq!(lent.step_fields(fields), reply, "{fields}");
             assert_eq!(lent.store_words(), owned.store_words());
             assert_eq!(lent.players_words(), owned.players_words());
@@ -520,6 +579,10 @@ mod tests {
         let (mut store, mut players) = ([0; STORE_WORDS], [0; PLAYERS_WORDS]);
         let mut again = TablesMut::fresh(&mut store, &mut players);
         let mut numbers = [[0; 3]; MOST_RECORDS];
+        let previewed = again.preview_run(session.bytes(), u32::MAX, &mut numbers);
+        assert_eq!(previewed.records as usize, PREVIEW_RECORDS);
+        assert_eq!(numbers[..PREVIEW_RECORDS], replies[..PREVIEW_RECORDS]);
+        assert_eq!(numbers[PREVIEW_RECORDS], [0; 3]);
         let report = again.run(session.bytes(), u32::MAX, &mut numbers);
         assert_eq!(report.why, Why::End);
         assert_eq!(numbers[..report.records as usize], replies);

@@ -8,6 +8,7 @@ mod intervals;
 mod lent;
 mod listing;
 mod loads;
+mod previews;
 mod random;
 mod run;
 mod shrink;

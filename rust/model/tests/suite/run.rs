@@ -10,14 +10,6 @@ use model::tables::{check, fresh_tables, PLAYERS_WORDS, STORE_WORDS};
 
 use crate::support::*;
 
-fn report(why: u32, records: u32, place: u32) -> Report {
-    Report {
-        why,
-        records,
-        place,
-    }
-}
-
 /// Three records of 3 bytes each: split 5 (0), split 5 (35), split 0 (28).
 const SESSION: &str = "52534C31 050A05 050A05 050A00";
 

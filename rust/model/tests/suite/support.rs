@@ -1,6 +1,6 @@
 //! Short names for steps and replies, and what several tests share.
 
-use calls::{Range, Reply, Step};
+use calls::{Range, Reply, Report, Step};
 use model::faults::NoFault;
 use model::state::{Operation, State};
 use model::trial::play;
@@ -61,6 +61,14 @@ pub fn reply(code: u32, a: u32, b: u32) -> Reply {
 
 pub fn refused(number: u32) -> Reply {
     Reply::new(number, 0, 0)
+}
+
+pub fn report(why: u32, records: u32, place: u32) -> Report {
+    Report {
+        why,
+        records,
+        place,
+    }
 }
 
 pub fn range(low: u8, high: u16) -> Range {
