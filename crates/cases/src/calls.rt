@@ -55,8 +55,8 @@ fn take(n: [u32; 6], call: u8, store: &mut [u32; STORE], players: &mut [u32; PLA
     let found = step_of(n);
     match found {
         Decoded::Record { step, length } => match call {
-            AHEAD => trial::ahead(store, players, step),
-            KEEP => trial::same_step(store, players, step),
+            AHEAD => trial::same_step(store, players, step, true),
+            KEEP => trial::same_step(store, players, step, false),
             _ => trial::step(store, players, step),
         },
         Decoded::Refused(why) => show::say(b"no step\n"),

@@ -36,25 +36,22 @@ pub(crate) fn reads(store: &mut [u32; STORE], players: &mut [u32; PLAYERS], time
     }
 }
 
-// Takes a step, and says whether each table is what it was.
-pub(crate) fn same_step(store: &mut [u32; STORE], players: &mut [u32; PLAYERS], next: Step) {
+// Takes a step, or previews it, and says whether each table is what it was.
+pub(crate) fn same_step(
+    store: &mut [u32; STORE],
+    players: &mut [u32; PLAYERS],
+    next: Step,
+    ahead: bool,
+) {
     let mut store_before = [0u32; STORE];
     let mut players_before = [0u32; PLAYERS];
     words::copy(&mut store_before, store);
     words::copy(&mut players_before, players);
-    step_shown(store, players, next);
-    same(store, &store_before);
-    same(players, &players_before);
-    show::say(b"\n");
-}
-
-// Previews a step, and says whether each table is what it was.
-pub(crate) fn ahead(store: &mut [u32; STORE], players: &mut [u32; PLAYERS], next: Step) {
-    let mut store_before = [0u32; STORE];
-    let mut players_before = [0u32; PLAYERS];
-    words::copy(&mut store_before, store);
-    words::copy(&mut players_before, players);
-    preview_shown(store, players, next);
+    if ahead {
+        preview_shown(store, players, next);
+    } else {
+        step_shown(store, players, next);
+    }
     same(store, &store_before);
     same(players, &players_before);
     show::say(b"\n");

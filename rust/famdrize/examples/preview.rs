@@ -1,5 +1,5 @@
-//! A projectionist asks beforehand: whether a write would be let in, and what the next records of a session
-//! would get. Nothing is altered by that. Prints each step and its reply; preview.txt is what it prints.
+//! Asked beforehand: whether a write would be let in, and what the next records of a session would get.
+//! Nothing is altered by that. Prints each step and its reply; preview.txt is what it prints.
 
 use famdrize::{Player, Range, Refusal, Reply, Session, Step, Tables, PREVIEW_RECORDS};
 

@@ -27,7 +27,7 @@
 //! # Trying a step first
 //!
 //! [`TablesMut::preview`] gives the reply that a step would get, [`TablesMut::preview_run`] the report and the replies of a run, of its first
-//! [`PREVIEW_RECORDS`] records; `Tables` has both. They alter nothing but the list for the replies, and take about 43.5 KB of stack, for copies
+//! [`PREVIEW_RECORDS`] records; `Tables` has both. They alter nothing but the list for the replies, and take about 44 KB of stack, for copies
 //! of the tables.
 //!
 //! # Refusals

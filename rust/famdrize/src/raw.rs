@@ -134,7 +134,7 @@ extern "C" {
         replies: *mut u32,
         replies_words: usize,
     ) -> Report;
-    /// What [`famdrize_step`] would reply; neither table is altered. It takes about 43.5 KB of stack.
+    /// What [`famdrize_step`] would reply; neither table is altered. It takes about 44 KB of stack.
     pub fn famdrize_preview(
         store: *const u32,
         store_words: usize,
@@ -147,7 +147,7 @@ extern "C" {
         value: u32,
         serial: u32,
     ) -> Reply;
-    /// What [`famdrize_run`] would report and reply, where a budget above 16 counts as 16; only the list is written. It takes about 43.5 KB of
+    /// What [`famdrize_run`] would report and reply, where a budget above 16 counts as 16; only the list is written. It takes about 44 KB of
     /// stack.
     pub fn famdrize_preview_run(
         store: *const u32,

@@ -137,7 +137,7 @@ impl<'a> TablesMut<'a> {
         Report::of_run(report)
     }
 
-    /// What a step would reply. Nothing is altered; it takes about 43.5 KB of stack, for copies of the tables.
+    /// What a step would reply. Nothing is altered; it takes about 44 KB of stack, for copies of the tables.
     ///
     /// ```
     /// use famdrize::{Refusal, Reply, Step, TablesMut};
@@ -162,7 +162,7 @@ impl<'a> TablesMut<'a> {
 
     /// What [`TablesMut::run`] would report, and reply to the records that it would take, where a budget above
     /// [`PREVIEW_RECORDS`](crate::PREVIEW_RECORDS) counts as that many: with more records it is [`Why::Spent`](crate::Why). Nothing but the
-    /// list for the replies is altered, and where the run would be refused not even that. It takes about 43.5 KB of stack, for copies of the
+    /// list for the replies is altered, and where the run would be refused not even that. It takes about 44 KB of stack, for copies of the
     /// tables.
     ///
     /// ```

@@ -100,7 +100,7 @@ impl Tables {
         (report, taken.map(Reply::of_step).collect())
     }
 
-    /// What a step would reply. Nothing is altered; it takes about 43.5 KB of stack, for copies of the tables.
+    /// What a step would reply. Nothing is altered; it takes about 44 KB of stack, for copies of the tables.
     ///
     /// ```
     /// use famdrize::{Player, Reply, Step, Tables};
@@ -126,7 +126,7 @@ impl Tables {
 
     /// What [`Tables::run`] would report, and reply to the records that it would take, where a budget above
     /// [`PREVIEW_RECORDS`](crate::PREVIEW_RECORDS) counts as that many: with more records it is [`Why::Spent`](crate::Why). Nothing but the
-    /// list for the replies is altered, and where the run would be refused not even that. It takes about 43.5 KB of stack, for copies of the
+    /// list for the replies is altered, and where the run would be refused not even that. It takes about 44 KB of stack, for copies of the
     /// tables.
     pub fn preview_run(&self, session: &[u8], budget: u32, replies: &mut [[u32; 3]]) -> Report {
         preview::of_run(&self.store, &self.players, session, budget, replies)
