@@ -1,2 +1,4 @@
--- The wrong programs that document 01 names, each against the promise of a step or a run (WrongPrograms).
+-- The wrong programs that document 01 names and wrong readings of document 02, each against the promise of a step or a run (WrongPrograms), or of
+-- a preview (WrongPreviews).
 pub mod WrongPrograms
+pub mod WrongPreviews

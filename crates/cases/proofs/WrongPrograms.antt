@@ -1,5 +1,5 @@
--- "Demand 2 rejects": the wrong programs that document 01 names, and wrong readings of document 02, each against the whole promise of `steps::step`, of
--- `steps::running::run` or of their previews. A program is here what it does to what is lent to it, whatever its code. Each theorem says what the fault is, and that no program with
+-- "Demand 2 rejects": the wrong programs that document 01 names, and wrong readings of document 02, each against the whole promise of `steps::step` or of
+-- `steps::running::run`. A program is here what it does to what is lent to it, whatever its code. Each theorem says what the fault is, and that no program with
 -- it keeps the promise.
 -- Assumes nothing.
 use mathlib.Core.Path.{_≡_, ap, refl, sym, _∙_}
@@ -29,19 +29,16 @@ use Rattle.players.specs.Kinds.{stands, map-of, kind-and-fields, kind, step-of}
 use Rattle.session.specs.Layout.{widths, fields-length, record-length, fields}
 use Rattle.session.specs.Records.{tested, decode}
 use Rattle.session.specs.Mark.{mark, begins, marked}
-use Rattle.session.specs.Runs.{Run, stopped, took, on-record, run-from, allowed, steps-from, steps, longest, preview-budget, whole-places}
+use Rattle.session.specs.Runs.{Run, stopped, took, on-record, run-from, allowed, steps-from, steps, longest, whole-places}
 use Rattle.requests.proofs.Basics.{cond-elim}
 use Rattle.players.proofs.IntervalLaws.{interval-taken}
 use Rattle.session.proofs.Refusals.{Numbered, decode-numbered}
 use Rattle.steps.specs.RunCalls.{Finished, ran, reply-at}
-use Rattle.steps.specs.Previews.{previewed, RunPreview, previewed-run}
-use Rattle.steps.proofs.PreviewedRuns.{preview-takes-few}
-use Rattle.steps.proofs.Refusals.{refuses-run, run-preview-keeps}
 
 -- ---- what can be lent
 
 -- words of 32 bits
-abbrev Words : List ℕ → Type 0
+abbrev pub Words : List ℕ → Type 0
 Words t = T (at-most 4294967295 t)
 
 -- the fields of a map, from bit 0 on, have their widths
@@ -60,7 +57,7 @@ abbrev Program : Type 0
 Program = Step → List ℕ → List ℕ → Done
 
 -- what can be handed to it
-abbrev Handed : Step → List ℕ → List ℕ → Type 0
+abbrev pub Handed : Step → List ℕ → List ℕ → Type 0
 Handed x st t = T (step-fits x) × Words st × Words t
 
 -- it keeps the promise of `steps::step`
@@ -72,14 +69,14 @@ pub step-promise : Keeps taken
 step-promise x st t h = refl
 
 -- tables that hold the state after some steps, from fresh tables on
-abbrev store-after : List Step → List ℕ
+abbrev pub store-after : List Step → List ℕ
 store-after xs = store-table (state-after fresh xs .store)
 
-abbrev players-after : List Step → List ℕ
+abbrev pub players-after : List Step → List ℕ
 players-after xs = tableOf (state-after fresh xs)
 
 -- player 0 asks for a guard over 0 to 9
-abbrev asked : List Step
+abbrev pub asked : List Step
 asked = Assign 0 (range 0 9) ∷ RequestGuard 0 (range 0 9) ∷ []
 
 -- it is granted, number 2; its read of entry 1 has arrived at the store
@@ -87,16 +84,16 @@ abbrev read-arrived : List Step
 read-arrived = asked ++ (Deliver 2 ∷ Respond 2 ∷ Read 0 1 ∷ Deliver 3 ∷ [])
 
 -- and is answered
-abbrev read-answered : List Step
+abbrev pub read-answered : List Step
 read-answered = read-arrived ++ (Respond 3 ∷ [])
 
 -- ---- what is computed: the tables are words, and what the promise says of them
 
-words : Words (store-after []) × Words (players-after []) × Words (store-after asked) × Words (players-after asked) × Words (store-after read-arrived) × Words (players-after read-arrived) × Words (store-after read-answered) × Words (players-after read-answered)
+pub words : Words (store-after []) × Words (players-after []) × Words (store-after asked) × Words (players-after asked) × Words (store-after read-arrived) × Words (players-after read-arrived) × Words (store-after read-answered) × Words (players-after read-answered)
 unfolding unbroken tablet-first tablet-end seek guardAt requestOf requestsFrom requestsOf fields-hold outcome-holds request-holds words-fit cell region at-most cached-holds cached-all placed places-hold valid-requests boundaries intervals rising guard-holds coded laid valid valid-players valid-store stateOf storeOf part-of store-table tableOf listed state-after
 words = (tt, tt, tt, tt, tt, tt, tt, tt)
 
-fits : T (step-fits (Split 5)) × T (step-fits (Assign 0 (range 0 9))) × T (step-fits (Deliver 2)) × T (step-fits (Respond 3)) × T (step-fits (Read 0 1))
+pub fits : T (step-fits (Split 5)) × T (step-fits (Assign 0 (range 0 9))) × T (step-fits (Deliver 2)) × T (step-fits (Respond 3)) × T (step-fits (Read 0 1))
 unfolding map-of
 fits = (tt, tt, tt, tt, tt)
 
@@ -130,11 +127,11 @@ unfolding unbroken tablet-first tablet-end seek guardAt requestOf requestsFrom r
 rows = refl
 
 -- the j-th number of the i-th row, counted from 0
-at : (i j : ℕ) {l m : List (List ℕ)} → l ≡ m → getD (getD l i []) j 0 ≡ getD (getD m i []) j 0
+pub at : (i j : ℕ) {l m : List (List ℕ)} → l ≡ m → getD (getD l i []) j 0 ≡ getD (getD m i []) j 0
 at i j e = ap (λ (l : List (List ℕ)). getD (getD l i []) j 0) e
 
 -- a word of equal tables
-word : (i : ℕ) {l m : List ℕ} → l ≡ m → getD l i 0 ≡ getD m i 0
+pub word : (i : ℕ) {l m : List ℕ} → l ≡ m → getD l i 0 ≡ getD m i 0
 word i e = ap (λ (l : List ℕ). getD l i 0) e
 
 -- ---- "a store that refuses each step": on fresh tables already, with whatever numbers, whatever it leaves
@@ -411,7 +408,7 @@ abbrev Running : Type 0
 Running = List ℕ → List ℕ → List ℕ → ℕ → List ℕ → Finished
 
 -- what can be handed to it
-abbrev HandedRun : List ℕ → List ℕ → List ℕ → ℕ → List ℕ → Type 0
+abbrev pub HandedRun : List ℕ → List ℕ → List ℕ → ℕ → List ℕ → Type 0
 HandedRun st t session budget list = Words st × Words t × T (at-most 255 session) × (budget ≤ 4294967295) × Words list
 
 -- it keeps the promise of `steps::running::run`
@@ -423,14 +420,14 @@ pub run-promise : KeepsRun ran
 run-promise st t session budget list h = refl
 
 -- two reads of entry 9, and one write to it, in as many bytes
-abbrev two-reads : List ℕ
+abbrev pub two-reads : List ℕ
 two-reads = mark ++ (0x07 ∷ 0x04 ∷ 0x00 ∷ 0x09 ∷ 0x07 ∷ 0x04 ∷ 0x00 ∷ 0x09 ∷ [])
 
 abbrev one-write : List ℕ
 one-write = mark ++ (0x17 ∷ 0x05 ∷ 0x00 ∷ 0x09 ∷ 0x07 ∷ 0x00 ∷ 0x00 ∷ 0x00 ∷ [])
 
 -- a list of three places
-abbrev three-places : List ℕ
+abbrev pub three-places : List ℕ
 three-places = 0 ∷ 0 ∷ 0 ∷ 0 ∷ 0 ∷ 0 ∷ 0 ∷ 0 ∷ 0 ∷ []
 
 -- how many records a run took; of its list, the second numbers of the first two replies; the last serial
@@ -451,7 +448,7 @@ run-rows :
 unfolding fields-length record-length fields map-of step-of tested begins run-from unbroken tablet-first tablet-end seek guardAt requestOf requestsFrom requestsOf fields-hold outcome-holds request-holds words-fit cell region at-most cached-holds cached-all placed places-hold valid-requests boundaries intervals rising guard-holds coded laid valid valid-players valid-store stateOf storeOf part-of store-table tableOf listed state-after
 run-rows = refl
 
-reads-handed : HandedRun (store-after []) (players-after []) two-reads 9 three-places
+pub reads-handed : HandedRun (store-after []) (players-after []) two-reads 9 three-places
 unfolding at-most
 reads-handed = (words .0, words .1, tt, omega arith, tt)
 
@@ -549,7 +546,7 @@ spent-from zero s place part = λ w. refl
 spent-from (suc left) s place part =
     cond-elim (Spent (suc left)) (eqb (length part) 0) (stopped 0 place s) _ (λ _ w. omega (arith, w)) (λ _. spent-next left place s part (decode part) (decode-numbered part) (spent-from left))
 
-spent-ran : (st t session : List ℕ) (budget : ℕ) (list : List ℕ) → ran st t session budget list .report .why ≡ 9
+pub spent-ran : (st t session : List ℕ) (budget : ℕ) (list : List ℕ) → ran st t session budget list .report .why ≡ 9
     → ran st t session budget list .report .records ≡ allowed budget (whole-places list)
 spent-ran st t session budget list =
     let n = allowed budget (whole-places list) in
@@ -565,139 +562,3 @@ reports-nine f st t session budget list h nine few k =
     let same = k st t session budget list h in
     let w = sym (ap (λ (r : Finished). r .report .why) same) ∙ nine in
     omega (arith, few, ap (λ (r : Finished). r .report .records) same, spent-ran st t session budget list w)
-
--- ---- document 02 §4: wrong previews of a step
-
--- what a program gives for a step and two tables that it can only read
-abbrev Previewing : Type 0
-Previewing = Step → List ℕ → List ℕ → Reply
-
--- it keeps the promise of `steps::previews::preview`
-abbrev KeepsPreview : Previewing → Type 0
-KeepsPreview f = (x : Step) (st t : List ℕ) → Handed x st t → f x st t ≡ previewed x st t
-
--- which can be kept
-pub preview-promise : KeepsPreview previewed
-preview-promise x st t h = refl
-
--- fresh tables but for the boundary before entry 0, which is gone
-abbrev broken-store : List ℕ
-broken-store = 0 ∷ drop 1 (store-after [])
-
-broken-words : Words broken-store
-unfolding at-most coded laid store-table listed state-after
-broken-words = tt
-
--- on fresh tables an assignment, and an arrival of no request; the arrival where there is one; a read that is remembered; on tables that break a rule
-preview-rows :
-    map (λ (r : Reply). r .code ∷ [])
-    (previewed (Assign 0 (range 0 9)) (store-after []) (players-after [])
-    ∷ previewed (Deliver 2) (store-after []) (players-after [])
-    ∷ previewed (Deliver 2) (store-after asked) (players-after asked)
-    ∷ previewed (Read 0 1) (store-after read-answered) (players-after read-answered)
-    ∷ previewed (Split 5) broken-store (players-after [])
-    ∷ [])
-    ≡ (1 ∷ []) ∷ (32 ∷ []) ∷ (0 ∷ []) ∷ (2 ∷ []) ∷ (22 ∷ []) ∷ []
-unfolding unbroken tablet-first tablet-end seek guardAt requestOf requestsFrom requestsOf fields-hold outcome-holds request-holds words-fit cell region at-most cached-holds cached-all placed places-hold valid-requests boundaries intervals rising guard-holds coded laid valid valid-players valid-store stateOf storeOf part-of store-table tableOf listed state-after
-preview-rows = refl
-
-module _ (f : Previewing) (k : KeepsPreview f) where
-  -- the code of a preview of a step on tables, as the row with this number has it
-  code : (x : Step) (st t : List ℕ) (n : ℕ) → Handed x st t → previewed x st t .code ≡ n → f x st t .code ≡ n
-  code x st t n h e = ap (λ (r : Reply). r .code) (k x st t h) ∙ e
-
-  assigning : f (Assign 0 (range 0 9)) (store-after []) (players-after []) .code ≡ 1
-  assigning = code (Assign 0 (range 0 9)) (store-after []) (players-after []) 1 (fits .1, words .0, words .1) (at 0 0 preview-rows)
-
-  -- one that tests, and says 0 to all that it does not refuse
-  pub preview-tests-alone : ((x : Step) (st t : List ℕ) → Handed x st t → f x st t .code < 21 → f x st t .code ≡ 0) → ⊥
-  preview-tests-alone fault =
-      let x = Assign 0 (range 0 9) in
-      omega (arith, assigning, fault x (store-after []) (players-after []) (fits .1, words .0, words .1) (omega (arith, assigning)))
-
-  -- one that refuses nothing for what a step needs: the tables' tests, 21 and 22, are all
-  pub preview-refuses-nothing : ((x : Step) (st t : List ℕ) → Handed x st t → f x st t .code ≤ 22) → ⊥
-  preview-refuses-nothing fault =
-      omega (
-        arith,
-        fault (Deliver 2) (store-after []) (players-after []) (fits .2, words .0, words .1),
-        code (Deliver 2) (store-after []) (players-after []) 32 (fits .2, words .0, words .1) (at 1 0 preview-rows),
-      )
-
-  -- one that trusts the tables
-  pub preview-trusts : ((x : Step) (st t : List ℕ) → Handed x st t → f x st t .code ≡ 22 → ⊥) → ⊥
-  preview-trusts fault = fault (Split 5) broken-store (players-after []) (fits .0, broken-words, words .1) (code (Split 5) broken-store (players-after []) 22 (fits .0, broken-words, words .1) (at 4 0 preview-rows))
-
-  -- one that looks at the step alone
-  pub preview-blind : ((x : Step) (st t st′ t′ : List ℕ) → Handed x st t → Handed x st′ t′ → f x st t .code ≡ f x st′ t′ .code) → ⊥
-  preview-blind fault =
-      let none = code (Deliver 2) (store-after []) (players-after []) 32 (fits .2, words .0, words .1) (at 1 0 preview-rows) in
-      let one = code (Deliver 2) (store-after asked) (players-after asked) 0 (fits .2, words .2, words .3) (at 2 0 preview-rows) in
-      omega (arith, none, one, fault (Deliver 2) (store-after []) (players-after []) (store-after asked) (players-after asked) (fits .2, words .0, words .1) (fits .2, words .2, words .3))
-
-  -- one that never tells of a read from memory
-  pub preview-forgets : ((p i : ℕ) (st t : List ℕ) → Handed (Read p i) st t → f (Read p i) st t .code ≡ 2 → ⊥) → ⊥
-  preview-forgets fault =
-      fault 0 1 (store-after read-answered) (players-after read-answered) (fits .4, words .6, words .7)
-      (code (Read 0 1) (store-after read-answered) (players-after read-answered) 2 (fits .4, words .6, words .7) (at 3 0 preview-rows))
-
--- ---- document 02 §4: wrong previews of a run
-
--- what a program gives for two tables that it can only read, a session, a budget and a list for replies
-abbrev PreviewingRun : Type 0
-PreviewingRun = List ℕ → List ℕ → List ℕ → ℕ → List ℕ → RunPreview
-
--- it keeps the promise of `steps::previews::preview_run`
-abbrev KeepsRunPreview : PreviewingRun → Type 0
-KeepsRunPreview f = (st t session : List ℕ) (budget : ℕ) (list : List ℕ) → HandedRun st t session budget list → f st t session budget list ≡ previewed-run st t session budget list
-
--- which can be kept
-pub run-preview-promise : KeepsRunPreview previewed-run
-run-preview-promise st t session budget list h = refl
-
--- the two reads from fresh tables, with a budget of 9 and of 17: why the preview stops, how many records it took, and the second number of the first reply
-run-preview-rows :
-    map (λ (p : RunPreview). p .report .why ∷ p .report .records ∷ getD (p .list) 1 0 ∷ [])
-    (previewed-run (store-after []) (players-after []) two-reads 9 three-places ∷ previewed-run (store-after []) (players-after []) two-reads 17 three-places ∷ [])
-    ≡ (0 ∷ 2 ∷ 1 ∷ []) ∷ (0 ∷ 2 ∷ 1 ∷ []) ∷ []
-unfolding fields-length record-length fields map-of step-of tested begins run-from unbroken tablet-first tablet-end seek guardAt requestOf requestsFrom requestsOf fields-hold outcome-holds request-holds words-fit cell region at-most cached-holds cached-all placed places-hold valid-requests boundaries intervals rising guard-holds coded laid valid valid-players valid-store stateOf storeOf part-of store-table tableOf listed state-after
-run-preview-rows = refl
-
-long-budget : HandedRun (store-after []) (players-after []) two-reads 17 three-places
-unfolding at-most
-long-budget = (words .0, words .1, tt, omega arith, tt)
-
--- one that takes more than 16 records, on any tables, with any session, budget and list
-pub preview-takes-more : (f : PreviewingRun) (st t session : List ℕ) (budget : ℕ) (list : List ℕ) → HandedRun st t session budget list
-    → 16 < f st t session budget list .report .records → KeepsRunPreview f → ⊥
-preview-takes-more f st t session budget list h more k =
-    omega (arith, more, ap (λ (p : RunPreview). p .report .records) (k st t session budget list h), preview-takes-few st t session budget list)
-
--- one that stops with 9 before 16 records, budget and list allow
-pub preview-stops-early : (f : PreviewingRun) (st t session : List ℕ) (budget : ℕ) (list : List ℕ) → HandedRun st t session budget list
-    → f st t session budget list .report .why ≡ 9 → f st t session budget list .report .records < allowed (preview-budget budget) (whole-places list) → KeepsRunPreview f → ⊥
-preview-stops-early f st t session budget list h nine few k =
-    let same = k st t session budget list h in
-    let w = sym (ap (λ (p : RunPreview). p .report .why) same) ∙ nine in
-    omega (arith, few, ap (λ (p : RunPreview). p .report .records) same, spent-ran st t session (preview-budget budget) list w)
-
--- one that refuses a budget above 16, or takes no record with it
-pub preview-refuses-budget : (f : PreviewingRun) → ((st t session : List ℕ) (budget : ℕ) (list : List ℕ) → HandedRun st t session budget list → 16 < budget → f st t session budget list .report .records ≡ 0)
-    → KeepsRunPreview f → ⊥
-preview-refuses-budget f fault k =
-    let e = k (store-after []) (players-after []) two-reads 17 three-places long-budget in
-    omega (arith, fault (store-after []) (players-after []) two-reads 17 three-places long-budget (omega arith), ap (λ (p : RunPreview). p .report .records) e, at 1 1 run-preview-rows)
-
--- one that leaves the list
-pub preview-leaves-list : (f : PreviewingRun) → ((st t session : List ℕ) (budget : ℕ) (list : List ℕ) → HandedRun st t session budget list → f st t session budget list .list ≡ list) → KeepsRunPreview f → ⊥
-preview-leaves-list f fault k =
-    let e = k (store-after []) (players-after []) two-reads 9 three-places reads-handed in
-    omega (arith, word 1 (fault (store-after []) (players-after []) two-reads 9 three-places reads-handed), ap (λ (p : RunPreview). getD (p .list) 1 0) e, at 0 2 run-preview-rows)
-
--- one that is refused and writes the list, on any tables, with any session, budget and list
-pub refused-preview-writes : (f : PreviewingRun) (st t session : List ℕ) (budget : ℕ) (list : List ℕ) → HandedRun st t session budget list
-    → refuses-run (f st t session budget list .report .why) ≡ true → (f st t session budget list .list ≡ list → ⊥) → KeepsRunPreview f → ⊥
-refused-preview-writes f st t session budget list h refused fault k =
-    let same = k st t session budget list h in
-    let r = sym (ap (λ (p : RunPreview). refuses-run (p .report .why)) same) ∙ refused in
-    fault (ap (λ (p : RunPreview). p .list) same ∙ ap (λ (p : RunPreview). p .list) (run-preview-keeps st t session budget list r))

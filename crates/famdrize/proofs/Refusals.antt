@@ -18,7 +18,7 @@ use Rattle.session.proofs.Refusals.{Keeps as KeepsBuffer, written-keeps}
 use Rattle.famdrize.specs.declared.Stated.{Stated}
 use Rattle.famdrize.specs.declared.Stated.the-variants.{Taken, Refused as NotStated}
 use Rattle.famdrize.specs.Fields.{stated, on-stated}
-use Rattle.famdrize.specs.Calls.{stepped, foreseen, recorded, decoded}
+use Rattle.famdrize.specs.Calls.{stepped, stepped-preview, recorded, decoded}
 
 -- a step, also one that is refused before the tables are looked at
 pub stepped-keeps : (vs st t : List ℕ) → KeepsTables st t (stepped vs st t)
@@ -29,8 +29,8 @@ stepped-keeps vs st t = by (stated vs)
     by (NotStated n) = record { kept = λ h. refl }
 
 -- a preview of it: the number and two zeros
-pub foreseen-keeps : (vs st t : List ℕ) → first-refusal ≤ foreseen vs st t .code → foreseen vs st t ≡ refusal (foreseen vs st t .code)
-foreseen-keeps vs st t h = ap (λ (d : Done). d .reply) (stepped-keeps vs st t .kept h)
+pub stepped-preview-keeps : (vs st t : List ℕ) → first-refusal ≤ stepped-preview vs st t .code → stepped-preview vs st t ≡ refusal (stepped-preview vs st t .code)
+stepped-preview-keeps vs st t h = ap (λ (d : Done). d .reply) (stepped-keeps vs st t .kept h)
 
 -- a record written
 pub recorded-keeps : (vs out : List ℕ) → KeepsBuffer out (recorded vs out)

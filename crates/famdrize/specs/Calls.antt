@@ -39,8 +39,8 @@ abbrev pub stepped : List ℕ → List ℕ → List ℕ → Done
 stepped vs st t = on-stated (stated vs) (λ x. taken x st t) (λ n. left (refusal n) st t)
 
 -- document 02 §4, "gives that reply, for every kind and refusal": the reply that such a call gives
-abbrev pub foreseen : List ℕ → List ℕ → List ℕ → Reply
-foreseen vs st t = stepped vs st t .reply
+abbrev pub stepped-preview : List ℕ → List ℕ → List ℕ → Reply
+stepped-preview vs st t = stepped vs st t .reply
 
 -- the step that such a call takes: none where the numbers stand for none
 abbrev pub step-taken : List ℕ → List Step

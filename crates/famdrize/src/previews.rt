@@ -8,7 +8,7 @@ use crate::step_fields;
 ghost use mathlib.Core.Path.{_≡_};
 ghost use Rattle.session.specs.Fields.{six};
 ghost use Rattle.steps.specs.Previews.{run-preview, previewed-run};
-ghost use Rattle.famdrize.specs.Calls.{reply-of, report-of, foreseen};
+ghost use Rattle.famdrize.specs.Calls.{reply-of, report-of, stepped-preview};
 
 // The reply that the step of this kind with these fields would get.
 #[no_mangle]
@@ -22,7 +22,7 @@ pub extern "C" fn famdrize_preview(
     value: u32,
     serial: u32,
 ) -> Answer
-    ensures { λ r. ⌜ reply-of r ≡ foreseen (six kind player entry high value serial) (now (store .entry)) (now (players .entry)) ⌝ }
+    ensures { λ r. ⌜ reply-of r ≡ stepped-preview (six kind player entry high value serial) (now (store .entry)) (now (players .entry)) ⌝ }
 {
     let stated = step_fields::step_of(kind, player, entry, high, value, serial);
     match stated {

@@ -4,11 +4,10 @@ use mathlib.Core.Path.{_≡_, refl, sym, ap, _∙_}
 use mathlib.Core.List.{List, [], _∷_}
 use Prim.Native.Nat.{ℕ}
 use Rattle.players.specs.Played.{Tables}
-use Rattle.session.specs.Runs.{preview-budget}
-use Rattle.steps.specs.RunCalls.{Finished, ran}
+use Rattle.steps.specs.RunCalls.{ran}
 use Rattle.steps.proofs.AfterPreviews.{few-previewed}
 use Rattle.linearizable.specs.Calls.{Call, a-step, exported-step, a-run, a-preview, exported-preview, a-run-preview, left-by, after-all}
-use Rattle.linearizable.specs.Previews.{is-preview, without-previews, Given, a-report, given, given-without, PreviewsUnseen, preview-of, Short, Foretold}
+use Rattle.linearizable.specs.Previews.{without-previews, Given, a-report, given, given-without, PreviewsUnseen, preview-of, Short, GivesPreviewed}
 
 -- one call more, which is no preview
 one-more : (u : Tables) (c : Call) (cs ds : List Call) → (given-without (left-by u c) cs ≡ given-without (left-by u c) ds) × (after-all (left-by u c) cs ≡ after-all (left-by u c) ds)
@@ -39,5 +38,5 @@ same-given u (a-preview x) h = refl
 same-given u (exported-preview k p e g v n) h = refl
 same-given u (a-run-preview session budget list) h = refl
 
-pub foretold : (u : Tables) (c : Call) → Foretold u c
-foretold u c h ps e = ap (λ (w : Tables). given w c) (previews-leave u ps e) ∙ same-given u c h
+pub gives-previewed : (u : Tables) (c : Call) → GivesPreviewed u c
+gives-previewed u c h ps e = ap (λ (w : Tables). given w c) (previews-leave u ps e) ∙ same-given u c h

@@ -11,7 +11,7 @@ use Rattle.session.specs.Fields.{six}
 use Rattle.session.specs.Runs.{preview-records}
 use Rattle.steps.specs.RunCalls.{ran}
 use Rattle.steps.specs.Previews.{previewed, previewed-run}
-use Rattle.famdrize.specs.Calls.{stepped, foreseen}
+use Rattle.famdrize.specs.Calls.{stepped, stepped-preview}
 use Rattle.linearizable.specs.Calls.{Call, a-step, exported-step, a-run, a-preview, exported-preview, a-run-preview, left-by, after-all}
 
 abbrev pub is-preview : Call → Bool
@@ -37,7 +37,7 @@ given u (a-step x) = a-reply (taken x (u .store) (u .players) .reply)
 given u (exported-step k p e h v n) = a-reply (stepped (six k p e h v n) (u .store) (u .players) .reply)
 given u (a-run session budget list) = let d = ran (u .store) (u .players) session budget list in a-report (d .report) (d .list)
 given u (a-preview x) = a-reply (previewed x (u .store) (u .players))
-given u (exported-preview k p e h v n) = a-reply (foreseen (six k p e h v n) (u .store) (u .players))
+given u (exported-preview k p e h v n) = a-reply (stepped-preview (six k p e h v n) (u .store) (u .players))
 given u (a-run-preview session budget list) = let p = previewed-run (u .store) (u .players) session budget list in a-report (p .report) (p .list)
 
 -- what all calls but the previews give
@@ -59,7 +59,7 @@ preview-of (a-preview x) = a-preview x
 preview-of (exported-preview k p e h v n) = exported-preview k p e h v n
 preview-of (a-run-preview session budget list) = a-run-preview session budget list
 
--- a run takes no more records than its preview may
+-- a run's budget is not above the one that its preview counts
 abbrev pub Short : Call → Type 0
 Short (a-step x) = Unit {0}
 Short (exported-step k p e h v n) = Unit {0}
@@ -69,5 +69,5 @@ Short (exported-preview k p e h v n) = Unit {0}
 Short (a-run-preview session budget list) = Unit {0}
 
 -- "gives that reply": whatever previews come between, the call gives what its preview gave; the call may be a preview itself
-abbrev pub Foretold : Tables → Call → Type 0
-Foretold u c = Short c → (ps : List Call) → without-previews ps ≡ [] → given (after-all u ps) c ≡ given u (preview-of c)
+abbrev pub GivesPreviewed : Tables → Call → Type 0
+GivesPreviewed u c = Short c → (ps : List Call) → without-previews ps ≡ [] → given (after-all u ps) c ≡ given u (preview-of c)

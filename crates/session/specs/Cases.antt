@@ -9,7 +9,7 @@ use Rattle.players.specs.declared.Step.{Step}
 use Rattle.players.specs.declared.Step.the-variants.{FindInterval, Load}
 use Rattle.players.specs.Replies.{reply, done, issued, cache-read, store-read, committed, rejected, granted, interval, refusal}
 use Rattle.players.specs.Rules.{State, replies, fresh}
-use Rattle.players.specs.Cases.{session as session-steps, cases as step-cases, Case as StepCase}
+use Rattle.players.specs.Cases.{session as session-steps, session-replies, cases as step-cases, Case as StepCase}
 use Rattle.players.specs.Kinds.{map-of, step-of}
 use Rattle.session.specs.Layout.{fields-length, record-length, fields, field-bytes}
 use Rattle.session.specs.declared.Decoded.the-variants.{Record}
@@ -130,8 +130,7 @@ record-cases =
 abbrev session-cases : List Case
 session-cases =
     -- the document's session
-    case (session worked-session 16384 5460)
-    (issued 1 ∷ issued 2 ∷ done ∷ granted 2 ∷ issued 3 ∷ issued 4 ∷ issued 5 ∷ done ∷ granted 5 ∷ issued 6 ∷ done ∷ store-read 0 0 ∷ done ∷ cache-read 0 0 ∷ rejected 3 ∷ reply at-end 15 92 ∷ [])
+    case (session worked-session 16384 5460) (session-replies ++ (reply at-end 15 92 ∷ []))
     -- no byte; the mark alone; another mark
     ∷ case (session [] 16384 5460) (reply no-mark 0 0 ∷ [])
     ∷ case (session mark 16384 5460) (reply at-end 0 4 ∷ [])
@@ -156,8 +155,7 @@ session-cases =
 abbrev preview-cases : List Case
 preview-cases =
     -- "with its report and replies": the document's session, of 15 records
-    case (preview worked-session 16384 5460)
-    (issued 1 ∷ issued 2 ∷ done ∷ granted 2 ∷ issued 3 ∷ issued 4 ∷ issued 5 ∷ done ∷ granted 5 ∷ issued 6 ∷ done ∷ store-read 0 0 ∷ done ∷ cache-read 0 0 ∷ rejected 3 ∷ reply at-end 15 92 ∷ [])
+    case (preview worked-session 16384 5460) (session-replies ++ (reply at-end 15 92 ∷ []))
     -- "a budget above 16 counting as 16": 16 records are all; one more is left
     ∷ case (preview (splits 16) 16384 5460) (dones 16 ++ (reply at-end 16 52 ∷ []))
     ∷ case (preview (splits 17) 16384 5460) (dones 16 ++ (reply spent 16 52 ∷ []))

@@ -17,12 +17,13 @@ use Rattle.session.specs.declared.Decoded.{Decoded}
 use Rattle.session.specs.declared.Decoded.the-variants.{Record, Refused}
 use Rattle.session.specs.Records.{decode}
 use Rattle.session.specs.Mark.{mark, marked}
-use Rattle.session.specs.Runs.{report, Run, at-end, spent, stopped, took, on-record, run-from, allowed, longest, too-long, no-mark, preview-records, preview-budget, whole-places, filled}
+use Rattle.session.specs.Runs.{report, Run, at-end, spent, stopped, took, on-record, run-from, allowed, run, longest, too-long, no-mark, preview-records, preview-budget, whole-places, filled}
 use Rattle.steps.specs.RunCalls.{Finished, finished, encoded, ran, replies-from}
 use Rattle.steps.specs.Previews.{RunPreview, run-preview, previewed-run}
 use Rattle.steps.proofs.LoopLaws.{replies-filled}
-use Rattle.steps.proofs.RanLaws.{allowed-few}
+use Rattle.steps.proofs.RanLaws.{allowed-few, ran-run}
 use Rattle.steps.proofs.FreshRuns.{counted-from}
+use Rattle.steps.proofs.AfterPreviews.{run-preview-follows}
 
 -- ---- the replies
 
@@ -166,3 +167,17 @@ module _ (st t session : List ℕ) (budget : ℕ) (list : List ℕ) where
   run-ends =
       by-tests (λ p q. (p .report .why ≡ spent → ⊥) → q ≡ p) (λ n g. refl)
       (λ n m h _ g. ap (λ (r : Run). run-preview (r .report) (filled list (r .replies))) (ends n m h (stateOf st t) (length mark) records g))
+
+-- also where the run is given the list that the preview has left
+pub run-ends-on : (st t session : List ℕ) (budget : ℕ) (list : List ℕ) → let p = previewed-run st t session budget list in
+    (p .report .why ≡ spent → ⊥) → (let d = ran st t session budget (p .list) in run-preview (d .report) (d .list)) ≡ p
+run-ends-on st t session budget list g =
+    let p = previewed-run st t session budget list in
+    let same : previewed-run st t session budget (p .list) ≡ p = run-preview-follows st t session budget list (p .report) (p .list) refl _ refl in
+    run-ends st t session budget (p .list) (λ w. g (sym (ap (λ (q : RunPreview). q .report .why) same) ∙ w)) ∙ same
+
+-- on tables that keep the rules it is the run of their state with the budget that counts
+pub preview-is-run : (st t session : List ℕ) (budget : ℕ) (list : List ℕ) → whole st t ≡ true → valid st t ≡ true
+    → previewed-run st t session budget list ≡ (let r = run (stateOf st t) session (preview-budget budget) (whole-places list) in run-preview (r .report) (filled list (r .replies)))
+preview-is-run st t session budget list w v =
+    ap (λ (d : Finished). run-preview (d .report) (d .list)) (ran-run st t session (preview-budget budget) list w v)

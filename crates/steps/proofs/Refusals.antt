@@ -1,8 +1,8 @@
 -- "A refusal gives its number and two zeros and alters no table or buffer": of a run, and of previews. 21, 22, 37 and 23 refuse a run; no other
 -- reason for which it stops does.
 -- Assumes nothing.
-use mathlib.Core.Path.{_≡_, refl, _∙_, sym, ap}
-use mathlib.Core.Bool.{Bool, true, false, cond, _||_}
+use mathlib.Core.Path.{_≡_, refl, ap}
+use mathlib.Core.Bool.{Bool, true, false, _||_}
 use mathlib.Core.List.{List}
 use Prim.Native.Nat.{ℕ, zero, suc, _+_, _≤_}
 use native.Mathlib.Omega.{arith}
@@ -20,9 +20,9 @@ use Rattle.session.specs.declared.Decoded.{Decoded}
 use Rattle.session.specs.declared.Decoded.the-variants.{Record, Refused}
 use Rattle.session.specs.Records.{cut-short, wrong-fields, decode}
 use Rattle.session.specs.Mark.{marked, mark}
-use Rattle.session.specs.Runs.{report, Run, at-end, spent, stopped, took, on-record, run-from, allowed, run-marked, longest, too-long, no-mark, preview-budget, whole-places}
+use Rattle.session.specs.Runs.{report, Run, at-end, spent, stopped, took, on-record, run-from, allowed, longest, too-long, no-mark, preview-budget, whole-places}
 use Rattle.session.proofs.Refusals.{Numbered, decode-numbered}
-use Rattle.steps.specs.RunCalls.{Finished, finished, encoded, ran}
+use Rattle.steps.specs.RunCalls.{Finished, finished, ran}
 use Rattle.steps.specs.Previews.{previewed, run-preview, previewed-run}
 
 -- "For a run: 21, 22, 37, 23"

@@ -11,11 +11,11 @@ use crate::wrong::{Point, Wrong};
 /// What is wrong with the preview of a step, or of a run.
 #[derive(Clone, Copy, Debug, PartialEq, Eq)]
 pub enum PreviewPoint {
-    /// Only the tables are tested: 0 where they keep the rules.
+    /// Only the tables are tested: 0 where they keep the rules. 26 and 27 are right.
     TablesAlone,
     /// 1 with the last serial, not with the next.
     LastSerial,
-    /// Tables that break a rule are taken, for fresh ones.
+    /// Tables that break a rule are taken to be fresh ones.
     BrokenTablesTaken,
     /// 21 and 22 before 26 and 27.
     TablesBeforeFields,

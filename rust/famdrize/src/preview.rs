@@ -70,7 +70,7 @@ mod tests {
     }
 
     /// Steps on fresh tables, by kind, player, entry, high, value and serial, and their replies: every kind, every reply, and every refusal
-    /// but 33 and 34.
+    /// that checked tables can give but 33 and 34.
     const STEPS: [([u32; 6], [u32; 3]); 39] = [
         ([14, 0, 45, 0, 0, 0], [9, 0, 255]),
         ([0, 0, 0, 0, 0, 0], [26, 0, 0]),
