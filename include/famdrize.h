@@ -282,7 +282,7 @@ famdrize_reply famdrize_preview(const uint32_t *store, size_t store_words, const
                                 uint8_t player, uint8_t entry, uint16_t high, uint32_t value, uint32_t serial);
 
 /* The report that famdrize_run would give, and the replies of the records that it would take, where a budget above FAMDRIZE_PREVIEW_RECORDS
- * counts as that many: 9 with records left after them. Neither table is altered; only the list is written, of which places not filled keep what
+ * counts as that many: 9 with bytes left after them. Neither table is altered; only the list is written, of which places not filled keep what
  * they had, and where the run would be refused not even that. It takes about 44 KB of stack, for copies of the tables. */
 famdrize_report famdrize_preview_run(const uint32_t *store, size_t store_words, const uint32_t *players, size_t players_words,
                                      const uint8_t *session, size_t session_bytes, uint32_t budget, uint32_t *replies, size_t replies_words);
