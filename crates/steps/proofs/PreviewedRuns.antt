@@ -25,23 +25,26 @@ use Rattle.steps.proofs.RanLaws.{allowed-few, ran-run}
 use Rattle.steps.proofs.FreshRuns.{counted-from}
 use Rattle.steps.proofs.AfterPreviews.{run-preview-follows}
 
+-- a run that may take one record, and `left` more, by what stands at the place
+abbrev by-record : ℕ → State → ℕ → List ℕ → Decoded → Run
+by-record left s place part d = on-record d (λ x k. took (step s x .reply) (run-from left (step s x .state) (place + k) (drop k part))) (λ k. stopped k place s)
+
 -- ---- the replies
 
-begins-next : (n m place : ℕ) (s : State) (d : Decoded) (part : List ℕ)
+begins-next : (n m : ℕ) (s : State) (place : ℕ) (part : List ℕ) (d : Decoded)
     → ((s′ : State) (place′ : ℕ) (part′ : List ℕ) → run-from n s′ place′ part′ .replies ≡ take n (run-from m s′ place′ part′ .replies))
-    → on-record d (λ x k. took (step s x .reply) (run-from n (step s x .state) (place + k) (drop k part))) (λ k. stopped k place s) .replies
-    ≡ take (suc n) (on-record d (λ x k. took (step s x .reply) (run-from m (step s x .state) (place + k) (drop k part))) (λ k. stopped k place s) .replies)
-begins-next n m place s (Record x k) part h = ap (λ (l : List Reply). step s x .reply ∷ l) (h (step s x .state) (place + k) (drop k part))
-begins-next n m place s (Refused k) part h = refl
+    → by-record n s place part d .replies ≡ take (suc n) (by-record m s place part d .replies)
+begins-next n m s place part (Record x k) h = ap (λ (l : List Reply). step s x .reply ∷ l) (h (step s x .state) (place + k) (drop k part))
+begins-next n m s place part (Refused k) h = refl
 
 begins : (n m : ℕ) → n ≤ m → (s : State) (place : ℕ) (part : List ℕ) → run-from n s place part .replies ≡ take n (run-from m s place part .replies)
 unfolding run-from
 begins zero m h s place part = refl
 begins (suc n) zero h s place part = absurd (omega arith)
-begins (suc n) (suc m) h s place part = by (eqb (length part) 0) (begins-next n m place s (decode part) part (begins n m (omega arith)))
+begins (suc n) (suc m) h s place part = by (eqb (length part) 0) (begins-next n m s place part (decode part) (begins n m (omega arith)))
   where
     more : ℕ → Run
-    more k = on-record (decode part) (λ x j. took (step s x .reply) (run-from k (step s x .state) (place + j) (drop j part))) (λ j. stopped j place s)
+    more k = by-record k s place part (decode part)
 
     by : (b : Bool) → more n .replies ≡ take (suc n) (more m .replies) → cond b (stopped at-end place s) (more n) .replies ≡ take (suc n) (cond b (stopped at-end place s) (more m) .replies)
     by true g = refl
@@ -49,27 +52,25 @@ begins (suc n) (suc m) h s place part = by (eqb (length part) 0) (begins-next n 
 
 -- ---- all of it, where it does not stop with 9
 
-ends-next : (n m place : ℕ) (s : State) (d : Decoded) (part : List ℕ)
+ends-next : (n m : ℕ) (s : State) (place : ℕ) (part : List ℕ) (d : Decoded)
     → ((s′ : State) (place′ : ℕ) (part′ : List ℕ) → (run-from n s′ place′ part′ .report .why ≡ spent → ⊥) → run-from m s′ place′ part′ ≡ run-from n s′ place′ part′)
-    → let more : ℕ → Run = λ i. on-record d (λ x k. took (step s x .reply) (run-from i (step s x .state) (place + k) (drop k part))) (λ k. stopped k place s) in
-    (more n .report .why ≡ spent → ⊥) → more m ≡ more n
-ends-next n m place s (Record x k) part h g = ap (took (step s x .reply)) (h (step s x .state) (place + k) (drop k part) g)
-ends-next n m place s (Refused k) part h g = refl
+    → (by-record n s place part d .report .why ≡ spent → ⊥) → by-record m s place part d ≡ by-record n s place part d
+ends-next n m s place part (Record x k) h g = ap (took (step s x .reply)) (h (step s x .state) (place + k) (drop k part) g)
+ends-next n m s place part (Refused k) h g = refl
 
 ends : (n m : ℕ) → n ≤ m → (s : State) (place : ℕ) (part : List ℕ) → (run-from n s place part .report .why ≡ spent → ⊥) → run-from m s place part ≡ run-from n s place part
 unfolding run-from
 ends zero zero h s place part g = refl
 ends zero (suc m) h s place part g = by (eqb (length part) 0) g
   where
-    by : (b : Bool) → (cond b at-end spent ≡ spent → ⊥)
-        → cond b (stopped at-end place s) (on-record (decode part) (λ x k. took (step s x .reply) (run-from m (step s x .state) (place + k) (drop k part))) (λ k. stopped k place s)) ≡ stopped (cond b at-end spent) place s
+    by : (b : Bool) → (cond b at-end spent ≡ spent → ⊥) → cond b (stopped at-end place s) (by-record m s place part (decode part)) ≡ stopped (cond b at-end spent) place s
     by true g = refl
     by false g = absurd (g refl)
 ends (suc n) zero h s place part g = absurd (omega arith)
-ends (suc n) (suc m) h s place part g = by (eqb (length part) 0) (ends-next n m place s (decode part) part (ends n m (omega arith))) g
+ends (suc n) (suc m) h s place part g = by (eqb (length part) 0) (ends-next n m s place part (decode part) (ends n m (omega arith))) g
   where
     more : ℕ → Run
-    more k = on-record (decode part) (λ x j. took (step s x .reply) (run-from k (step s x .state) (place + j) (drop j part))) (λ j. stopped j place s)
+    more k = by-record k s place part (decode part)
 
     by : (b : Bool) → ((more n .report .why ≡ spent → ⊥) → more m ≡ more n) → (cond b (stopped at-end place s) (more n) .report .why ≡ spent → ⊥)
         → cond b (stopped at-end place s) (more m) ≡ cond b (stopped at-end place s) (more n)
