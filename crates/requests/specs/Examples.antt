@@ -9,10 +9,10 @@ use Rattle.store.specs.Calls.{reply}
 use Rattle.requests.specs.declared.Request.{Request}
 use Rattle.requests.specs.declared.LentRequest.{LentRequest}
 use Rattle.requests.specs.declared.Fit.the-variants.{Undelivered, Answerable, Pending, Abandoned}
-use Rattle.requests.specs.declared.Look.the-variants.{Writing, Crossing}
+use Rattle.requests.specs.declared.Look.the-variants.{Writing, Using}
 use Rattle.requests.specs.Region.{requestOf, requestsFrom, requestsOf, placed, regionOf}
 use Rattle.requests.specs.Answers.{gives, refused}
-use Rattle.requests.specs.Calls.{found-numbers, overlapped-from, pass, passed}
+use Rattle.requests.specs.Calls.{found-numbers, scanned, overlapped-from, crossing, crossed}
 use Rattle.requests.specs.Lent.{request, counts, one-more, counted, answer, waiting}
 
 -- a read of entry 45, with these marks
@@ -61,9 +61,15 @@ pub twice-case :
 unfolding requestOf requestsFrom requestsOf placed
 twice-case = refl
 
--- a read of entry 45 by player 3 is not looked for, and only a write there marks it
+-- a read of entry 45 by player 3 is not looked for by a read, and is by a write there
+pub sought-case :
+    map (λ x. scanned x (regionOf (request (place 1 3 0 0 0) ∷ []))) (Writing 3 45 ∷ Using 3 45 ∷ Using 3 44 ∷ [])
+    ≡ map (λ b. record { used = 1; hit = b; full = false }) (false ∷ true ∷ false ∷ [])
+unfolding requestOf requestsFrom requestsOf placed
+sought-case = refl
+
+-- which marks it
 pub crossed-case :
-    map (λ x. passed x (regionOf (request (place 1 3 0 0 0) ∷ []))) (Writing 3 45 ∷ Crossing 3 45 ∷ Crossing 3 44 ∷ [])
-    ≡ map (λ m. pass (record { used = 1; hit = false }) (regionOf (request (place 1 3 m 0 0) ∷ []))) (0 ∷ 1 ∷ 0 ∷ [])
-unfolding requestOf requestsFrom requestsOf placed passed overlapped-from
+    map (λ e. crossed 3 e (regionOf (request (place 1 3 0 0 0) ∷ []))) (45 ∷ 44 ∷ []) ≡ map (λ m. crossing false (regionOf (request (place 1 3 m 0 0) ∷ []))) (1 ∷ 0 ∷ [])
+unfolding requestOf requestsFrom requestsOf placed crossed overlapped-from
 crossed-case = refl

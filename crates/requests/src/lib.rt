@@ -7,6 +7,7 @@ pub mod lent;
 mod places;
 pub mod region;
 mod rules;
+mod shares;
 mod tests;
 
 // A request in flight (document: row). Fields that its kind lacks are 0, and so is the outcome before delivery.
@@ -72,12 +73,14 @@ pub enum Look {
     Requesting { player: u8, range: Range },
     // step 4: a pending write of the player on the entry
     Writing { player: u8, entry: u8 },
-    // step 5: the same, and the player's pending reads and writes there are marked overlapped
-    Crossing { player: u8, entry: u8 },
+    // step 5: a pending read or write of the player on the entry
+    Using { player: u8, entry: u8 },
 }
 
-// What a pass over the requests tells: how many there are, and whether one is of those that are looked for.
+// What a pass over the requests tells: how many there are, whether one is of those that are looked for, and whether no place is left for one
+// more of the player.
 pub struct Scan {
     pub used: usize,
     pub hit: bool,
+    pub full: bool,
 }

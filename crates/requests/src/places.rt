@@ -1,5 +1,4 @@
 // One place of the region: 12 words, which hold a request.
-use crate::Look;
 use crate::Request;
 use crate::layout;
 use crate::tests;
@@ -10,9 +9,9 @@ ghost use mathlib.Core.Bool.{cond, not, _&&_};
 ghost use Prim.Native.Nat.{_+_, _*_, _%_, _≤_, _<_};
 ghost use lib.Dec.{ltb, eqb};
 ghost use lib.ListN.{length, getD, take, drop, set, replicate};
-ghost use Rattle.requests.specs.Model.{by};
+ghost use Rattle.requests.specs.Model.{by, using-entry};
 ghost use Rattle.requests.specs.Region.{requestAt, bit, wordsOf, region-words};
-ghost use Rattle.requests.specs.Calls.{over, closed, crossed, carried, carry};
+ghost use Rattle.requests.specs.Calls.{over, closed, carried, carry};
 
 // A word cut to 8 bits.
 fn byte(x: u32) -> u8
@@ -117,12 +116,12 @@ pub(crate) fn close(region: &mut [u32], k: usize)
     drop_first(&mut region[k * layout::SIZE..]);
 }
 
-// Marks the request `r` of place `k` as overlapped if a write crosses it.
-pub(crate) fn overlap(region: &mut [u32], k: usize, r: Request, look: Look)
+// Marks the request `r` of place `k` as overlapped if it is a pending read or write of the player on the entry.
+pub(crate) fn overlap(region: &mut [u32], k: usize, r: Request, player: u8, entry: u8)
     requires { ⌜ (k < 64) × (length (now region) ≡ region-words) ⌝ }
-    ensures { λ _. ⌜ now (region .exit) ≡ cond (crossed look r) (set (now (region .entry)) (k * 12 + 7) 1) (now (region .entry)) ⌝ }
+    ensures { λ _. ⌜ now (region .exit) ≡ cond (using-entry player entry r) (set (now (region .entry)) (k * 12 + 7) 1) (now (region .entry)) ⌝ }
 {
-    if !tests::is_crossed(r, look) {
+    if !tests::is_using(r, player, entry) {
         return;
     }
     region[k * layout::SIZE + layout::OVERLAPPED] = 1;

@@ -7,11 +7,12 @@ use crate::Scan;
 use crate::layout;
 use crate::places;
 use crate::rules;
+use crate::shares;
 use crate::tests;
 use store::words;
 ghost use mathlib.Core.Path.{_≡_};
 ghost use Rattle.requests.specs.Region.{valid};
-ghost use Rattle.requests.specs.Calls.{Finds, full, with-request, with-abandoned, with-delivered, without, pass, passed, restarted};
+ghost use Rattle.requests.specs.Calls.{Finds, scanned, with-request, with-abandoned, with-delivered, without, crossing, crossed, restarted};
 
 // Whether a region keeps the rules, where `last` is the last serial issued.
 pub fn holds(region: &[u32], last: u32) -> bool
@@ -50,14 +51,31 @@ pub fn find(region: &[u32], serial: u32, fit: Fit) -> Found
     Found::Nowhere
 }
 
-// Whether the last place is used.
-pub fn is_full(region: &[u32]) -> bool
-    ensures { λ r. ⌜ r ≡ full (now (region .entry)) ⌝ }
+// How many requests there are, whether one is looked for, and whether no place is left for one more of the player.
+pub fn scan(region: &[u32], look: Look) -> Scan
+    ensures { λ r. ⌜ r ≡ scanned look (now (region .entry)) ⌝ }
 {
     if region.len() != layout::WORDS {
-        return false;
+        return Scan {
+            used: 0,
+            hit: false,
+            full: false,
+        };
     }
-    region[layout::LAST_PLACE] != 0
+    let mut counts = [0u8; layout::COUNTS];
+    let mut hit = false;
+    let mut k = 0;
+    while places::is_used(region, k) {
+        let r = places::request_at(region, k);
+        hit = tests::either(hit, tests::is_sought(r, look));
+        shares::count(&mut counts, r.player);
+        k += 1;
+    }
+    Scan {
+        used: k,
+        hit,
+        full: shares::turn_away(&counts, tests::asker(look)),
+    }
 }
 
 // ---- one place changed
@@ -118,28 +136,22 @@ pub fn remove(region: &mut [u32], k: usize)
 
 // ---- all places changed
 
-// How many requests there are, and whether one is looked for. Those that a write crosses are marked as overlapped.
-pub fn scan(region: &mut [u32], look: Look) -> Scan
-    ensures { λ r. ⌜ pass r (now (region .exit)) ≡ passed look (now (region .entry)) ⌝ }
+// Marks the player's pending reads and writes on the entry as overlapped; whether a write is among them.
+pub fn cross(region: &mut [u32], player: u8, entry: u8) -> bool
+    ensures { λ r. ⌜ crossing r (now (region .exit)) ≡ crossed player entry (now (region .entry)) ⌝ }
 {
     if region.len() != layout::WORDS {
-        return Scan {
-            used: 0,
-            hit: false,
-        };
+        return false;
     }
     let mut hit = false;
     let mut k = 0;
-    while k < layout::PLACES {
-        if region[k * layout::SIZE] == 0 {
-            return Scan { used: k, hit };
-        }
+    while places::is_used(region, k) {
         let r = places::request_at(region, k);
-        hit = tests::either(hit, tests::is_sought(r, look));
-        places::overlap(region, k, r, look);
+        hit = tests::either(hit, tests::is_writing(r, player, entry));
+        places::overlap(region, k, r, player, entry);
         k += 1;
     }
-    Scan { used: k, hit }
+    hit
 }
 
 // Gives up the player's pending requests: those delivered leave, the others are abandoned.

@@ -7,11 +7,11 @@ use Rattle.requests.proofs.Basics.{chosen, passed-over}
 use Rattle.requests.proofs.places.overlap.Statement.{statement}
 use Rattle.requests.proofs.places.overlap.Tie as tie
 
-is-crossed-requires : tie.Need-is-crossed-requires
-is-crossed-requires c κs = search needs
+is-using-requires : tie.Need-is-using-requires
+is-using-requires c κs = search needs
 
 returns : tie.Need-returns
-returns c = passed-over _ _ _ (sym (c .before .is-crossed .ensures) ∙ not-true _ (c .if1 .taken))
+returns c = passed-over _ _ _ (sym (c .before .is-using .ensures) ∙ not-true _ (c .if1 .taken))
 
 mul-region : tie.Need-mul-region
 mul-region c = search needs
@@ -29,13 +29,13 @@ same-length : tie.Need-same-length
 same-length c = search needs
 
 returns-2 : tie.Need-returns-2
-returns-2 c = chosen _ _ _ (sym (c .before .is-crossed .ensures) ∙ not-false _ (c .if1 .left))
+returns-2 c = chosen _ _ _ (sym (c .before .is-using .ensures) ∙ not-false _ (c .if1 .left))
 
 pub overlap-spec : {M : Type 1} → statement M
 overlap-spec =
     tie.close
     (tie.spec
-    is-crossed-requires
+    is-using-requires
     returns
     mul-region
     add-region

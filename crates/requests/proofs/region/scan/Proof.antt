@@ -1,85 +1,108 @@
--- `requests::region::scan` meets its contract. The loop's invariant: what the pass will tell, and do, is what it is to tell and do.
+-- `requests::region::scan` meets its contract. The loop's invariant: what the pass will tell is what it is to tell.
 -- Assumes nothing.
-use mathlib.Core.Path.{_≡_, refl, sym, ap, _∙_}
+use mathlib.Core.Path.{_≡_, refl, sym, ap, _∙_, subst}
 use mathlib.Core.Bool.{Bool, _||_}
 use Prim.Native.Nat.{_+_, _≤_, _-_}
 use native.Mathlib.Omega.{arith}
 use lib.ListN.{length}
-use Rattle.requests.specs.Calls.{scanned, overlapped-from, sought, crossed}
-use Rattle.requests.proofs.ScanLaws.{from-end, from-unused, scan-at, scan-start, scan-end, scan-on}
-use Rattle.requests.proofs.CrossLaws.{words-at, words-end, words-unused, after-place, words-on, pass-none, pass-done, same-scan}
+use Rattle.requests.specs.Shares.{turned-away, count-length, count-of, Within}
+use Rattle.requests.specs.Calls.{scanned}
+use Rattle.requests.proofs.CountLaws.{more-long, more-within, within-more, zeros-within}
+use Rattle.requests.proofs.ScanLaws.{is-used, from-none, scan-at, scan-none, scan-start, scan-end, scan-on}
 use Rattle.requests.proofs.region.scan.Statement.{statement}
 use Rattle.requests.proofs.region.scan.Tie as tie
 
 abbrev Inv-loop : tie.InvT-loop
-Inv-loop region₀ look hit₀ k₀ region hit k = (k ≤ 64) × (length region ≡ 768) × (scan-at (sought look) region k hit ≡ scanned (sought look) region₀) × (words-at (crossed look) k region ≡ overlapped-from (crossed look) 64 region₀)
+Inv-loop region look counts₀ hit₀ k₀ counts hit k = (k ≤ 64) × (length counts ≡ count-length) × Within k counts × (scan-at look region k hit counts ≡ scanned look region)
 
 abbrev μ-loop : tie.MeasureT-loop
-μ-loop region₀ look hit₀ k₀ region hit k = 64 - k
+μ-loop region look counts₀ hit₀ k₀ counts hit k = 64 - k
 
 returns : tie.Need-returns Inv-loop μ-loop
 returns c =
     let a = c .before .before .args in
-    pass-none (a .look) (a .region .now) (c .if1 .taken)
+    scan-none (a .look) (a .region .now) (c .if1 .taken)
 
 loop-holds : tie.Need-loop-holds Inv-loop μ-loop
 loop-holds c =
     let a = c .before .before .args in
-    (omega arith, c .if1 .left, scan-start (sought (a .look)) (a .region .now) (c .if1 .left), refl)
+    (omega arith, refl, zeros-within, scan-start (a .look) (a .region .now) (c .if1 .left))
 
-mul-if2 : tie.Need-mul-if2 Inv-loop μ-loop
-mul-if2 c = omega arith
-
-mul-if2-2 : tie.Need-mul-if2-2 Inv-loop μ-loop
-mul-if2-2 c = omega arith
-
-slice-read-if2 : tie.Need-slice-read-if2 Inv-loop μ-loop
-slice-read-if2 c = omega arith
-
-same-length : tie.Need-same-length Inv-loop μ-loop
-same-length c = c .before .before .before .loop .inv .1 ∙ sym (c .before .before .before .before .if1 .left)
-
-returns-2 : tie.Need-returns-2 Inv-loop μ-loop
-returns-2 c =
-    let a = c .before .before .before .before .before .before .args in
-    pass-done (a .look) (a .region .now) (c .before .before .before .before .if1 .left) _ _ (scan-end (sought (a .look)) (c .before .before .before .loop .region) (c .before .before .before .loop .k) (c .before .before .before .loop .hit) (from-unused (c .before .before .before .loop .region) (c .before .before .before .loop .k) (c .before .before .loop-test .taken) (c .if2 .taken)) ∙ c .before .before .before .loop .inv .2) (sym (words-unused (crossed (a .look)) (c .before .before .before .loop .region) (c .before .before .before .loop .k) (c .before .before .loop-test .taken) (c .if2 .taken)) ∙ c .before .before .before .loop .inv .3)
+is-used-requires : tie.Need-is-used-requires Inv-loop μ-loop
+is-used-requires c κs = c .before .if1 .left
 
 request-at-requires : tie.Need-request-at-requires Inv-loop μ-loop
-request-at-requires c κs = omega arith
+request-at-requires c κs =
+    let u = c .before in
+    let l = u .before .loop in
+    (is-used (u .before .before .before .before .args .region .now) (l .k) (sym (u .is-used .ensures) ∙ c .if2 .taken) .0, u .before .before .if1 .left)
 
 is-sought-requires : tie.Need-is-sought-requires Inv-loop μ-loop
-is-sought-requires c κs = omega arith
+is-sought-requires c κs = tt
 
 either-requires : tie.Need-either-requires Inv-loop μ-loop
-either-requires c κs = omega arith
+either-requires c κs = tt
 
-overlap-requires : tie.Need-overlap-requires Inv-loop μ-loop
-overlap-requires c κs = omega arith
+slice-aggregate-count : tie.Need-slice-aggregate-count Inv-loop μ-loop
+slice-aggregate-count c = sym (c .before .before .before .before .before .before .loop .inv .1)
+
+count-requires : tie.Need-count-requires Inv-loop μ-loop
+count-requires c κs =
+    let t = c .before .before .before .before in
+    let u = t .before in
+    let l = u .before .loop in
+    let h = is-used (u .before .before .before .before .args .region .now) (l .k) (sym (u .is-used .ensures) ∙ t .if2 .taken) .0 in
+    (l .inv .1, within-more (l .k) 63 (l .counts) (omega arith) (l .inv .2))
 
 add-k : tie.Need-add-k Inv-loop μ-loop
 add-k c = omega arith
 
 loop-less : tie.Need-loop-less Inv-loop μ-loop
-loop-less c = omega arith
+loop-less c =
+    let t = c .before .before .before .before .before .before in
+    let u = t .before in
+    let l = u .before .loop in
+    let h = is-used (u .before .before .before .before .args .region .now) (l .k) (sym (u .is-used .ensures) ∙ t .if2 .taken) .0 in
+    omega arith
 
 loop-again : tie.Need-loop-again Inv-loop μ-loop
 loop-again c =
-    let a = c .before .before .before .before .before .before .before .before .before .before .before .before .before .before .args in (
-      omega arith,
-      c .before .before .overlap .kept .0 ∙ c .before .before .before .before .before .before .before .before .before .before .before .loop .inv .1,
-      sym (same-scan (sought (a .look)) (c .before .before .before .before .before .before .before .before .before .before .before .loop .region) _ (c .before .before .before .before .before .before .before .before .before .before .before .loop .k + 1) (c .before .before .before .before .either .result) (after-place (crossed (a .look)) (c .before .before .before .before .before .before .before .before .before .before .before .loop .region) (c .before .before .before .before .before .before .before .before .before .before .before .loop .k) (c .before .before .before .before .before .before .before .before .before .before .loop-test .taken) _ _ (ap (crossed (a .look)) (sym (c .before .before .before .before .before .before .request-at .ensures))) (c .before .before .overlap .ensures)))
-          ∙ sym (scan-on (sought (a .look)) (c .before .before .before .before .before .before .before .before .before .before .before .loop .region) (c .before .before .before .before .before .before .before .before .before .before .before .loop .k) (c .before .before .before .before .before .before .before .before .before .before .before .loop .hit) (c .before .before .before .before .before .before .before .before .before .before .loop-test .taken) (c .before .before .before .before .before .before .before .before .if2 .left) _ (c .before .before .before .before .before .before .request-at .ensures) _ (c .before .before .before .before .either .ensures ∙ ap (λ (b : Bool). c .before .before .before .before .before .before .before .before .before .before .before .loop .hit || b) (c .before .before .before .before .before .is-sought .ensures)))
-          ∙ c .before .before .before .before .before .before .before .before .before .before .before .loop .inv .2,
-      sym (words-on (crossed (a .look)) (c .before .before .before .before .before .before .before .before .before .before .before .loop .region) (c .before .before .before .before .before .before .before .before .before .before .before .loop .k) (c .before .before .before .before .before .before .before .before .before .before .loop-test .taken) _ _ (ap (crossed (a .look)) (sym (c .before .before .before .before .before .before .request-at .ensures))) (c .before .before .overlap .ensures) (c .before .before .before .before .before .before .before .before .if2 .left)) ∙ c .before .before .before .before .before .before .before .before .before .before .before .loop .inv .3,
+    let n = c .before in
+    let e = n .before .before in
+    let q = e .before in
+    let r = q .before in
+    let t = r .before in
+    let u = t .before in
+    let l = u .before .loop in
+    let a = u .before .before .before .before .args in
+    let h = is-used (a .region .now) (l .k) (sym (u .is-used .ensures) ∙ t .if2 .taken) in
+    let p = r .request-at .result .player in (
+      omega (arith, h .0),
+      ap length (n .count .ensures) ∙ more-long p (l .counts) ∙ l .inv .1,
+      subst (Within (l .k + 1)) (sym (n .count .ensures)) (more-within p (l .counts) (l .k) (l .inv .2)),
+      sym (scan-on (a .look) (a .region .now) (l .k) (l .hit) (l .counts) (h .0) (h .1) _ (r .request-at .ensures) _ (e .either .ensures ∙ ap (λ (b : Bool). l .hit || b) (q .is-sought .ensures)) _ (n .count .ensures)) ∙ l .inv .3,
     )
 
-same-length-2 : tie.Need-same-length-2 Inv-loop μ-loop
-same-length-2 c = c .before .loop .inv .1 ∙ sym (c .before .before .if1 .left)
+slice-aggregate-turn-away : tie.Need-slice-aggregate-turn-away Inv-loop μ-loop
+slice-aggregate-turn-away c = sym (c .before .before .before .loop .inv .1)
 
-returns-3 : tie.Need-returns-3 Inv-loop μ-loop
-returns-3 c =
-    let a = c .before .before .before .before .args in
-    pass-done (a .look) (a .region .now) (c .before .before .if1 .left) _ _ (scan-end (sought (a .look)) (c .before .loop .region) (c .before .loop .k) (c .before .loop .hit) (from-end (c .before .loop .region) (c .before .loop .k) (c .loop-test .left)) ∙ c .before .loop .inv .2) (sym (words-end (crossed (a .look)) (c .before .loop .region) (c .before .loop .k) (c .loop-test .left)) ∙ c .before .loop .inv .3)
+asker-requires : tie.Need-asker-requires Inv-loop μ-loop
+asker-requires c κs = tt
+
+turn-away-requires : tie.Need-turn-away-requires Inv-loop μ-loop
+turn-away-requires c κs =
+    let l = c .before .before .before .before .loop in
+    (l .inv .1, within-more (l .k) 64 (l .counts) (l .inv .0) (l .inv .2))
+
+returns-2 : tie.Need-returns-2 Inv-loop μ-loop
+returns-2 c =
+    let k = c .before in
+    let t = k .before .before in
+    let u = t .before in
+    let l = u .before .loop in
+    let a = u .before .before .before .before .args in
+    let n = sym (u .is-used .ensures) ∙ t .if2 .left in
+    scan-end (a .look) (a .region .now) (l .k) (l .hit) (l .counts) (from-none (a .region .now) (l .k) n) _ (c .turn-away .ensures ∙ ap (turned-away (count-of (l .counts))) (k .asker .ensures)) ∙ l .inv .3
 
 pub scan-spec : {M : Type 1} → statement M
 scan-spec =
@@ -89,17 +112,16 @@ scan-spec =
     μ-loop
     returns
     loop-holds
-    mul-if2
-    mul-if2-2
-    slice-read-if2
-    same-length
-    returns-2
+    is-used-requires
     request-at-requires
     is-sought-requires
     either-requires
-    overlap-requires
+    slice-aggregate-count
+    count-requires
     add-k
     loop-less
     loop-again
-    same-length-2
-    returns-3)
+    slice-aggregate-turn-away
+    asker-requires
+    turn-away-requires
+    returns-2)

@@ -22,8 +22,8 @@ is-writing-requires c κs = search needs
 enum-known-look-3 : tie.Need-enum-known-look-3
 enum-known-look-3 c = search needs
 
-is-writing-requires-2 : tie.Need-is-writing-requires-2
-is-writing-requires-2 c κs = search needs
+is-using-requires : tie.Need-is-using-requires
+is-using-requires c κs = search needs
 
 returns : tie.Need-returns
 returns c =
@@ -38,7 +38,7 @@ returns-2 c =
 returns-3 : tie.Need-returns-3
 returns-3 c =
     let b = c .before .before in
-    c .is-writing2 .ensures ∙ ap (λ (x : Look). sought x (b .before .before .args .r)) (sym (b .look3 .given .1))
+    c .is-using .ensures ∙ ap (λ (x : Look). sought x (b .before .before .args .r)) (sym (b .look3 .given .1))
 
 pub is-sought-spec : {M : Type 1} → statement M
 is-sought-spec =
@@ -49,7 +49,7 @@ is-sought-spec =
     enum-known-look-2
     is-writing-requires
     enum-known-look-3
-    is-writing-requires-2
+    is-using-requires
     returns
     returns-2
     returns-3)
