@@ -1,4 +1,4 @@
--- Requests counted by player, as the passes over the places count them: the counts are those of the shares.
+-- Requests count-all by player, as the passes over the places count them: the counts are those of the shares.
 -- Assumes nothing.
 use mathlib.Core.Path.{_≡_, refl, sym, ap, _∙_, subst}
 use mathlib.Core.Logic.{_≢_, ⊎-elim}
@@ -13,34 +13,34 @@ use lib.ListN.{length, getD, set, replicate, length-set, getD-replicate}
 use lib.Seq.{set-out, getD-set-same, getD-set-other}
 use Rattle.requests.specs.declared.Request.{Request}
 use Rattle.requests.specs.Model.{loader, by}
-use Rattle.requests.specs.Shares.{own-places, common-places, count-by, above-own, common, common-used, shares-hold, turned-away, no-place, count-length, one-more, counted, count-of, Within}
+use Rattle.requests.specs.Shares.{own-places, common-places, count-by, above-own, common, common-used, shares-hold, turned-away, no-place, count-length, count-one, count-all, count-of, Within}
 use Rattle.requests.proofs.Basics.{decide}
 
 -- ---- one more
 
 module _ (p : ℕ) (c : List ℕ) where
-  pub more-long : length (one-more p c) ≡ length c
-  unfolding one-more
+  pub more-long : length (count-one p c) ≡ length c
+  unfolding count-one
   more-long = length-set c p (count-of c p + 1)
 
-  more-here : p < length c → count-of (one-more p c) p ≡ count-of c p + 1
-  unfolding one-more
+  more-here : p < length c → count-of (count-one p c) p ≡ count-of c p + 1
+  unfolding count-one
   more-here h = getD-set-same c p (count-of c p + 1) 0 h
 
-  more-other : (q : ℕ) → q ≢ p → count-of (one-more p c) q ≡ count-of c q
-  unfolding one-more
+  more-other : (q : ℕ) → q ≢ p → count-of (count-one p c) q ≡ count-of c q
+  unfolding count-one
   more-other q h = getD-set-other c p q (count-of c p + 1) 0 h
 
-  pub more-is : set c p (count-of c p + 1) ≡ one-more p c
-  unfolding one-more
+  pub more-is : set c p (count-of c p + 1) ≡ count-one p c
+  unfolding count-one
   more-is = refl
 
   -- a number that has no count
-  pub more-none : length c ≤ p → c ≡ one-more p c
-  unfolding one-more
+  pub more-none : length c ≤ p → c ≡ count-one p c
+  unfolding count-one
   more-none h = sym (set-out c p (count-of c p + 1) h)
 
-  pub more-within : (n : ℕ) → Within n c → Within (n + 1) (one-more p c)
+  pub more-within : (n : ℕ) → Within n c → Within (n + 1) (count-one p c)
   more-within n h q =
       let k = h q in
       ⊎-elim
@@ -48,10 +48,10 @@ module _ (p : ℕ) (c : List ℕ) where
       let e = eqb-true q p t in
       ⊎-elim
       (λ l.
-      let a : count-of (one-more p c) q ≡ count-of c q + 1 = subst (λ z. count-of (one-more p c) z ≡ count-of c z + 1) (sym e) (more-here (ltb-true p (length c) l)) in
+      let a : count-of (count-one p c) q ≡ count-of c q + 1 = subst (λ z. count-of (count-one p c) z ≡ count-of c z + 1) (sym e) (more-here (ltb-true p (length c) l)) in
       omega arith)
       (λ l.
-      let a : count-of (one-more p c) q ≡ count-of c q = ap (λ (d : List ℕ). count-of d q) (sym (more-none (ltb-false p (length c) l))) in
+      let a : count-of (count-one p c) q ≡ count-of c q = ap (λ (d : List ℕ). count-of d q) (sym (more-none (ltb-false p (length c) l))) in
       omega arith)
       (decide (ltb p (length c))))
       (λ t. let a = more-other q (eqb-false q p t) in omega arith)
@@ -62,15 +62,15 @@ within-more n m c h w p = let a = w p in omega arith
 
 -- ---- all requests of a list
 
-counted-by : (rs : List Request) (c : List ℕ) (p : ℕ) → p < length c → count-of (counted c rs) p ≡ count-of c p + count-by p rs
-unfolding counted
+counted-by : (rs : List Request) (c : List ℕ) (p : ℕ) → p < length c → count-of (count-all c rs) p ≡ count-of c p + count-by p rs
+unfolding count-all
 counted-by [] c p h = omega arith
 counted-by (r ∷ rs) c p h =
-    let k = counted-by rs (one-more (r .player) c) p (rw (more-long (r .player) c) h) in
+    let k = counted-by rs (count-one (r .player) c) p (rw (more-long (r .player) c) h) in
     ⊎-elim
     (λ t.
     let e = eqb-true (r .player) p t in
-    let a : count-of (one-more (r .player) c) p ≡ count-of c p + 1 = rw e (more-here p c h) in
+    let a : count-of (count-one (r .player) c) p ≡ count-of c p + 1 = rw e (more-here p c h) in
     rw t (omega arith))
     (λ t.
     let a = more-other (r .player) c p (λ z. eqb-false (r .player) p t (sym z)) in
@@ -94,7 +94,7 @@ zeros-within p =
 
 module _ (rs : List Request) where
   abbrev all : ℕ → ℕ
-  all p = count-of (counted zeros rs) p
+  all p = count-of (count-all zeros rs) p
 
   all-counted : (p : ℕ) → p ≤ loader → all p ≡ count-by p rs
   all-counted p h = let a = counted-by rs zeros p (omega arith) in let b = zeros-within p in omega arith

@@ -14,7 +14,7 @@ use mir.Val.{Fits}
 use borrow.Author.Tests.{eq-eqb, ne-eqb, lt-ltb, le-ltb}
 use Rattle.store.specs.Table.{at-most}
 use Rattle.requests.specs.Model.{loader}
-use Rattle.requests.specs.Shares.{common-places, common, shares-hold, counted, count-of}
+use Rattle.requests.specs.Shares.{common-places, common, shares-hold, count-all, count-of}
 use Rattle.requests.specs.Region.{requestOf, requestAt, requestsOf, request-holds, words-fit, places-hold, valid}
 use Rattle.requests.proofs.CountLaws.{zeros, common-counted}
 use Rattle.requests.proofs.ScanLaws.{place-used, not-used}
@@ -132,7 +132,7 @@ module _ (w : List ℕ) (n : ℕ) where
   pub places-broken : places-hold n 0 64 w ≡ false → false ≡ places-hold n 0 64 w && shares-hold (requestsOf w)
   places-broken h = rw h
 
-  pub shares-told : places-hold n 0 64 w ≡ true → (c : List ℕ) → c ≡ counted zeros (requestsOf w) → (b : Bool) → b ≡ leb (common (count-of c)) common-places → b ≡ places-hold n 0 64 w && shares-hold (requestsOf w)
+  pub shares-told : places-hold n 0 64 w ≡ true → (c : List ℕ) → c ≡ count-all zeros (requestsOf w) → (b : Bool) → b ≡ leb (common (count-of c)) common-places → b ≡ places-hold n 0 64 w && shares-hold (requestsOf w)
   shares-told h c ec b eb = rw (h, eb, ec, common-counted (requestsOf w))
 
 module _ (w : List ℕ) (n : ℕ) where

@@ -18,7 +18,7 @@ use Rattle.requests.specs.declared.Found.the-variants.{At, Nowhere}
 use Rattle.requests.specs.declared.Look.{Look}
 use Rattle.requests.specs.declared.Scan.{Scan}
 use Rattle.requests.specs.Model.{serial-is, fits, any, find}
-use Rattle.requests.specs.Shares.{turned-away, one-more, counted, count-of}
+use Rattle.requests.specs.Shares.{turned-away, count-one, count-all, count-of}
 use Rattle.requests.specs.Region.{requestAt, requestsFrom, requestsOf, wordsOf}
 use Rattle.requests.specs.Answers.{gives, refused, no-such-request}
 use Rattle.requests.specs.Calls.{found-from, found, numbers, ahead, Finds, sought, asker, scanned}
@@ -89,14 +89,14 @@ module _ (w : List ℕ) where
 
 -- ---- counts
 
--- the requests from place k on counted, one place further, and at the end
+-- the requests from place k on count-all, one place further, and at the end
 module _ (w : List ℕ) (k : ℕ) where
-  pub counted-on : k < 64 → (getD w (k * 12) 0 ≡ 0 → ⊥) → (c : List ℕ) (r : Request) → r ≡ requestAt w k → (c′ : List ℕ) → c′ ≡ one-more (r .player) c → counted c (from w k) ≡ counted c′ (from w (k + 1))
-  unfolding counted
+  pub counted-on : k < 64 → (getD w (k * 12) 0 ≡ 0 → ⊥) → (c : List ℕ) (r : Request) → r ≡ requestAt w k → (c′ : List ℕ) → c′ ≡ count-one (r .player) c → count-all c (from w k) ≡ count-all c′ (from w (k + 1))
+  unfolding count-all
   counted-on h z c r er c′ ec = rw (from-used w k h z, ec, er)
 
-  pub counted-end : from w k ≡ [] → (c : List ℕ) → c ≡ counted c (from w k)
-  unfolding counted
+  pub counted-end : from w k ≡ [] → (c : List ℕ) → c ≡ count-all c (from w k)
+  unfolding count-all
   counted-end e c = rw e
 
 -- ---- a search
@@ -153,7 +153,7 @@ module _ (x : Look) (w : List ℕ) where
   -- what the pass will tell, once place k is reached with this result of the test and these counts
   abbrev pub scan-at : ℕ → Bool → List ℕ → Scan
   scan-at k hit c =
-      record { used = k + length (from w k); hit = hit || any (sought x) (from w k); full = turned-away (count-of (counted c (from w k))) (asker x) }
+      record { used = k + length (from w k); hit = hit || any (sought x) (from w k); full = turned-away (count-of (count-all c (from w k))) (asker x) }
 
   pub scan-none : (length w ≡ 768 → ⊥) → record { used = 0; hit = false; full = false } ≡ scanned x w
   scan-none h = rw (no-requests w h, and-false)
@@ -165,7 +165,7 @@ module _ (x : Look) (w : List ℕ) where
     pub scan-end : from w k ≡ [] → (b : Bool) → b ≡ turned-away (count-of c) (asker x) → record { used = k; hit = hit; full = b } ≡ scan-at k hit c
     scan-end e b eb = rw (← counted-end w k e c, e, add-zero, or-false, eb)
 
-    pub scan-on : k < 64 → (getD w (k * 12) 0 ≡ 0 → ⊥) → (r : Request) → r ≡ requestAt w k → (b : Bool) → b ≡ hit || sought x r → (c′ : List ℕ) → c′ ≡ one-more (r .player) c → scan-at k hit c ≡ scan-at (k + 1) b c′
+    pub scan-on : k < 64 → (getD w (k * 12) 0 ≡ 0 → ⊥) → (r : Request) → r ≡ requestAt w k → (b : Bool) → b ≡ hit || sought x r → (c′ : List ℕ) → c′ ≡ count-one (r .player) c → scan-at k hit c ≡ scan-at (k + 1) b c′
     scan-on h z r er b eb c′ ec =
         let n : k + suc (length (from w (k + 1))) ≡ k + 1 + length (from w (k + 1)) = omega arith in
         rw (counted-on w k h z c r er c′ ec, from-used w k h z, eb, er, n, or-assoc)

@@ -8,9 +8,9 @@ use Prim.Native.Nat.{ℕ, zero, suc, _+_, _*_, _-_, _≤_, _<_}
 use native.Mathlib.Omega.{arith}
 use borrow.Author.Tests.{eqb-true, eqb-false, ne-eqb, lt-leb, leb-false}
 use lib.Dec.{leb, eqb}
-use lib.ListN.{length}
+use lib.ListN.{length, length-append}
 use Rattle.requests.specs.declared.Request.{Request}
-use Rattle.requests.specs.Model.{places, loader, by, serial-is, keep, change-request}
+use Rattle.requests.specs.Model.{places, loader, new-request, by, serial-is, keep, change-request}
 use Rattle.requests.specs.Shares.{own-places, common-places, count-by, above-own, common, common-used, turned-away, no-place}
 use Rattle.requests.proofs.Basics.{decide, cond-elim}
 use Rattle.requests.proofs.Rising.{In, here, there}
@@ -44,14 +44,18 @@ keep-no-more f (r ∷ rs) p =
     let h = keep-no-more f rs p in
     cond-elim (λ z. count-by p z ≤ count-by p (r ∷ rs)) (f r) (r ∷ keep f rs) (keep f rs) (λ _. counts-on (by p r) _ _ h) (λ _. counts-over (by p r) _ _ h)
 
-pub map-count : (f : Request → Request) → ((r : Request) → f r .player ≡ r .player) → (rs : List Request) (p : ℕ) → count-by p (map f rs) ≡ count-by p rs
+map-count : (f : Request → Request) → ((r : Request) → f r .player ≡ r .player) → (rs : List Request) (p : ℕ) → count-by p (map f rs) ≡ count-by p rs
 map-count f h [] p = refl
 map-count f h (r ∷ rs) p =
     let a : by p (f r) ≡ by p r = ap (λ k. eqb k p) (h r) in
     ap (λ b. cond b (suc (count-by p (map f rs))) (count-by p (map f rs))) a ∙ ap (λ n. cond (by p r) (suc n) n) (map-count f h rs p)
 
+-- of which some are changed, as a test chooses
+pub choice-count : (t : Request → Bool) (f : Request → Request) → ((r : Request) → f r .player ≡ r .player) → (rs : List Request) (p : ℕ) → count-by p (map (λ r. cond (t r) (f r) r) rs) ≡ count-by p rs
+choice-count t f h = map-count (λ r. cond (t r) (f r) r) (λ r. cond-elim (λ (y : Request). y .player ≡ r .player) (t r) (f r) r (λ _. h r) (λ _. refl))
+
 pub changed-count : (n : ℕ) (f : Request → Request) → ((r : Request) → f r .player ≡ r .player) → (rs : List Request) (p : ℕ) → count-by p (change-request n f rs) ≡ count-by p rs
-changed-count n f h rs p = map-count (λ r. cond (serial-is n r) (f r) r) (λ r. cond-elim (λ (y : Request). y .player ≡ r .player) (serial-is n r) (f r) r (λ _. h r) (λ _. refl)) rs p
+changed-count n = choice-count (serial-is n)
 
 -- a request more: of its player one more, of all others as many
 append-other : (rs : List Request) (n : Request) (p : ℕ) → n .player ≢ p → count-by p (rs ++ (n ∷ [])) ≡ count-by p rs
@@ -111,6 +115,9 @@ common-no-more rs rs′ h =
     let a = h loader in
     let b = above-no-more (counting rs) (counting rs′) (λ p. let c = h p in omega arith) loader in
     omega arith
+
+pub as-many-shares : (rs rs′ : List Request) → ((p : ℕ) → count-by p rs′ ≡ count-by p rs) → Shares rs → Shares rs′
+as-many-shares rs rs′ h k = let a = common-no-more rs rs′ (λ p. let c = h p in omega arith) in omega arith
 
 -- ---- a place is left
 
@@ -185,3 +192,16 @@ total-shares (suc n) rs = let a = total-shares n rs in omega arith
 
 pub at-most-places : (rs : List Request) → ((r : Request) → In r rs → r .player ≤ loader) → Shares rs → length rs ≤ places
 at-most-places rs h k = let a = length-total rs h in let b = total-shares loader rs in omega arith
+
+-- and where a place is left, fewer
+pub place-left : (p : ℕ) (rs : List Request) → p ≤ loader → ((r : Request) → In r rs → r .player ≤ loader) → Shares rs → no-place p rs ≡ false → length rs < places
+place-left p rs le h k t =
+    let n = new-request 0 p 0 0 0 0 0 false in
+    let a = at-most-places (rs ++ (n ∷ [])) (joined rs h) (appended-shares rs rs n (λ _. refl) k t) in
+    let b = length-append rs (n ∷ []) in
+    omega arith
+  where
+    joined : (rs : List Request) → ((r : Request) → In r rs → r .player ≤ loader) → (r : Request) → In r (rs ++ (new-request 0 p 0 0 0 0 0 false ∷ [])) → r .player ≤ loader
+    joined [] h r here = le
+    joined (q ∷ rs) h r here = h q here
+    joined (q ∷ rs) h r (there m) = joined rs (λ x i. h x (there i)) r m

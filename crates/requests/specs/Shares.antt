@@ -54,13 +54,13 @@ abbrev pub count-length : ℕ
 count-length = 9
 
 -- one more request of player p; a number above the loader's has no count
-unfoldable pub one-more : ℕ → List ℕ → List ℕ
-one-more p c = set c p (getD c p 0 + 1)
+unfoldable pub count-one : ℕ → List ℕ → List ℕ
+count-one p c = set c p (getD c p 0 + 1)
 
 -- the counts after the requests of a list
-unfoldable pub counted : List ℕ → List Request → List ℕ
-counted c [] = c
-counted c (r ∷ rs) = counted (one-more (r .player) c) rs
+unfoldable pub count-all : List ℕ → List Request → List ℕ
+count-all c [] = c
+count-all c (r ∷ rs) = count-all (count-one (r .player) c) rs
 
 -- the count of player p
 abbrev pub count-of : List ℕ → ℕ → ℕ

@@ -1,4 +1,4 @@
-// The places that each player has of its own, and those common to all: requests counted by player while a pass goes over them, and what the
+// The places that each player has of its own, and those common to all: requests count-all by player while a pass goes over them, and what the
 // counts tell.
 use crate::layout;
 ghost use mathlib.Core.Path.{_≡_};
@@ -7,12 +7,12 @@ ghost use Prim.Native.Nat.{_-_};
 ghost use lib.Dec.{leb};
 ghost use lib.ListN.{length};
 ghost use Rattle.requests.specs.Model.{loader};
-ghost use Rattle.requests.specs.Shares.{own-places, common-places, common, turned-away, count-length, one-more, count-of, Within};
+ghost use Rattle.requests.specs.Shares.{own-places, common-places, common, turned-away, count-length, count-one, count-of, Within};
 
 // Counts one more request of the player; a number above the loader's has no count.
 pub(crate) fn count(counts: &mut [u8], player: u8)
     requires { ⌜ (length (now counts) ≡ count-length) × Within 63 (now counts) ⌝ }
-    ensures { λ _. ⌜ now (counts .exit) ≡ one-more player (now (counts .entry)) ⌝ }
+    ensures { λ _. ⌜ now (counts .exit) ≡ count-one player (now (counts .entry)) ⌝ }
 {
     let p = player as usize;
     if p >= layout::COUNTS {

@@ -8,7 +8,7 @@ use borrow.Author.Needs.{needs}
 use borrow.Author.Tests.{not-true, not-false}
 use Rattle.store.specs.Table.{at-most}
 use Rattle.store.proofs.Lists.{rest}
-use Rattle.requests.specs.Shares.{count-length, counted, Within}
+use Rattle.requests.specs.Shares.{count-length, count-all, Within}
 use Rattle.requests.specs.Region.{requestsOf, request-holds, places-hold}
 use Rattle.requests.proofs.CountLaws.{zeros, zeros-within, more-long, more-within, within-more}
 use Rattle.requests.proofs.ScanLaws.{from, from-start, from-none, is-used, counted-on, counted-end}
@@ -17,7 +17,7 @@ use Rattle.requests.proofs.rules.places_hold.Statement.{statement}
 use Rattle.requests.proofs.rules.places_hold.Tie as tie
 
 abbrev Inv-loop : tie.InvT-loop
-Inv-loop region last counts₀ serial₀ k₀ counts serial k = (k ≤ 64) × (length counts ≡ count-length) × Within k counts × (places-hold last serial (64 - k) (drop (k * 12) region) ≡ places-hold last 0 64 region) × (counted counts (from region k) ≡ counted zeros (requestsOf region))
+Inv-loop region last counts₀ serial₀ k₀ counts serial k = (k ≤ 64) × (length counts ≡ count-length) × Within k counts × (places-hold last serial (64 - k) (drop (k * 12) region) ≡ places-hold last 0 64 region) × (count-all counts (from region k) ≡ count-all zeros (requestsOf region))
 
 abbrev μ-loop : tie.MeasureT-loop
 μ-loop region last counts₀ serial₀ k₀ counts serial k = 64 - k
@@ -25,7 +25,7 @@ abbrev μ-loop : tie.MeasureT-loop
 loop-holds : tie.Need-loop-holds Inv-loop μ-loop
 loop-holds c =
     let r = c .before .args .region .now in
-    (omega arith, refl, zeros-within, refl, ap (counted zeros) (from-start r (c .before .pre)))
+    (omega arith, refl, zeros-within, refl, ap (count-all zeros) (from-start r (c .before .pre)))
 
 is-used-requires : tie.Need-is-used-requires Inv-loop μ-loop
 is-used-requires c κs = c .before .before .pre

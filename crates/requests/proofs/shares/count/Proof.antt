@@ -3,7 +3,7 @@
 use mathlib.Core.Path.{refl}
 use native.Mathlib.Omega.{arith}
 use borrow.Author.Needs.{needs}
-use Rattle.requests.specs.Shares.{one-more}
+use Rattle.requests.specs.Shares.{count-one}
 use Rattle.requests.proofs.CountLaws.{more-none, more-is}
 use Rattle.requests.proofs.shares.count.Statement.{statement}
 use Rattle.requests.proofs.shares.count.Tie as tie
