@@ -1,18 +1,20 @@
 -- The pass of a write over the requests: what it tells, and what it marks.
 -- Assumes nothing.
 use mathlib.Core.Path.{_≡_, refl, sym, ap, _∙_}
-use mathlib.Core.Bool.{Bool, true, false, cond, _||_, or-false, or-assoc}
-use mathlib.Core.List.{List, [], _++_, append-assoc}
+use mathlib.Core.Logic.{⊎-elim}
+use mathlib.Core.Bool.{Bool, true, false, cond, _&&_, _||_, and-false, or-false, or-assoc}
+use mathlib.Core.List.{List, [], _∷_, _++_, map, append-assoc}
 use Prim.Native.Nat.{ℕ, suc, _+_, _-_, _*_, _≤_, _<_}
 use native.Mathlib.Omega.{arith}
 use lib.ListN.{length, getD, take, drop, set, take-append-drop}
 use lib.Seq.{take-add, take-set-le, drop-set-lt, drop-set-add}
-use borrow.Author.Tests.{eq-eqb, ne-eqb}
+use borrow.Author.Tests.{eq-eqb, ne-eqb, eqb-true}
+use lib.Dec.{eqb}
 use Rattle.requests.specs.declared.Request.{Request}
-use Rattle.requests.specs.Model.{writing, using-entry, any}
+use Rattle.requests.specs.Model.{is-guard-request, is-write, by, pending, writing, using-entry, mark-overlapped, any}
 use Rattle.requests.specs.Region.{requestAt, requestsOf}
 use Rattle.requests.specs.Calls.{overlapped-from, crossing, crossed}
-use Rattle.requests.proofs.Basics.{cond-elim}
+use Rattle.requests.proofs.Basics.{decide, neither-left, neither-right, cond-elim}
 use Rattle.requests.proofs.ScanLaws.{from, from-start, from-used, no-requests, first-word, next-place, place-used, not-used}
 
 -- the words, once the places below k have been passed
@@ -81,6 +83,26 @@ module _ (f : Request → Bool) (w : List ℕ) where
     -- the words from the next place on are as they were
     pub told-on : k < 64 → (getD w (k * 12) 0 ≡ 0 → ⊥) → (r : Request) → r ≡ requestAt w k → (b : Bool) → b ≡ hit || f r → (w′ : List ℕ) → drop ((k + 1) * 12) w′ ≡ drop ((k + 1) * 12) w → told-at f w k hit ≡ told-at f w′ (k + 1) b
     told-on h z r er b eb w′ ew = rw (from-used w k h z, eb, er, or-assoc, ew)
+
+-- no read or write of the player on the entry is pending: no write is, and nothing is marked
+module _ (p e : ℕ) where
+  no-write : (r : Request) → using-entry p e r ≡ false → writing p e r ≡ false
+  no-write r h =
+      ⊎-elim
+      (λ t.
+      let k = eqb-true (r .kind) 5 t in
+      let g : is-guard-request r ≡ false = ne-eqb (r .kind) 3 (omega arith) in
+      let u : (pending r && (by p r && eqb (r .low) e)) ≡ false = rw g at h in
+      rw t u)
+      (λ t. rw t (and-false (pending r)))
+      (decide (is-write r))
+
+  pub none-using : (rs : List Request) → any (using-entry p e) rs ≡ false → (any (writing p e) rs ≡ false) × (map (λ r. cond (using-entry p e r) (mark-overlapped r) r) rs ≡ rs)
+  none-using [] h = (refl, refl)
+  none-using (r ∷ rs) h =
+      let a = neither-left (using-entry p e r) (any (using-entry p e) rs) h in
+      let b = none-using rs (neither-right (using-entry p e r) (any (using-entry p e) rs) h) in
+      (rw (no-write r a, b .0), rw (a, b .1))
 
 module _ (p e : ℕ) (w : List ℕ) where
   pub cross-none : (length w ≡ 768 → ⊥) → crossing false w ≡ crossed p e w

@@ -22,17 +22,17 @@ pub(crate) fn load(players: &mut [u32], entry: u8, value: u32) -> Reply
     ensures { λ r. ⌜ Moves (λ s. step s (Load entry value)) (now (players .entry)) r (now (players .exit)) ⌝ }
 {
     let player = requests::layout::LOADER;
-    if region::is_full(&players[layout::REQUESTS..layout::REQUESTS_END]) {
+    let scan = region::scan(
+        &players[layout::REQUESTS..layout::REQUESTS_END],
+        Look::Writing { player, entry },
+    );
+    if scan.full {
         return refuse(codes::NO_PLACE_LEFT);
     }
     let last = players[layout::LAST];
     if last >= layout::SERIALS {
         return refuse(codes::NO_SERIAL_LEFT);
     }
-    let scan = region::scan(
-        &mut players[layout::REQUESTS..layout::REQUESTS_END],
-        Look::Writing { player, entry },
-    );
     issuing::add(
         players,
         scan.used,
