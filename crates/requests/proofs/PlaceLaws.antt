@@ -14,9 +14,10 @@ use mir.Val.{Fits}
 use borrow.Author.Tests.{eq-eqb, ne-eqb, lt-ltb, le-ltb}
 use Rattle.store.specs.Table.{at-most}
 use Rattle.requests.specs.Model.{loader}
-use Rattle.requests.specs.Shares.{common-places, common, shares-hold, count-all, count-of}
+use Rattle.requests.specs.Shares.{common-places, common, shares-hold, counted, count-in}
 use Rattle.requests.specs.Region.{requestOf, requestAt, requestsOf, request-holds, words-fit, places-hold, valid}
-use Rattle.requests.proofs.CountLaws.{zeros, common-counted}
+use Rattle.requests.proofs.CountLaws.{common-counted}
+use Rattle.requests.proofs.Placed.{requests-few}
 use Rattle.requests.proofs.ScanLaws.{place-used, not-used}
 
 -- ---- where a word lies
@@ -132,8 +133,8 @@ module _ (w : List ℕ) (n : ℕ) where
   pub places-broken : places-hold n 0 64 w ≡ false → false ≡ places-hold n 0 64 w && shares-hold (requestsOf w)
   places-broken h = rw h
 
-  pub shares-told : places-hold n 0 64 w ≡ true → (c : List ℕ) → c ≡ count-all zeros (requestsOf w) → (b : Bool) → b ≡ leb (common (count-of c)) common-places → b ≡ places-hold n 0 64 w && shares-hold (requestsOf w)
-  shares-told h c ec b eb = rw (h, eb, ec, common-counted (requestsOf w))
+  pub shares-told : places-hold n 0 64 w ≡ true → (c : ℕ) → c ≡ counted (requestsOf w) → (b : Bool) → b ≡ leb (common (count-in c)) common-places → b ≡ places-hold n 0 64 w && shares-hold (requestsOf w)
+  shares-told h c ec b eb = rw (h, eb, ec, common-counted (requestsOf w) (requests-few w))
 
 module _ (w : List ℕ) (n : ℕ) where
   pub other-length : (length w ≡ 768 → ⊥) → false ≡ valid n w

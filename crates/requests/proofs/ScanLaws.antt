@@ -2,10 +2,10 @@
 -- Assumes nothing.
 use mathlib.Core.Path.{_≡_, refl, sym, ap, _∙_}
 use mathlib.Core.Logic.{⊎-elim}
-use mathlib.Core.Bool.{Bool, true, false, cond, not, _&&_, _||_, and-false, or-false, or-assoc}
+use mathlib.Core.Bool.{Bool, true, false, cond, not, _&&_, _||_, or-false, or-assoc}
 use mathlib.Core.List.{List, [], _∷_}
-use Prim.Native.Nat.{ℕ, suc, _+_, _-_, _*_, _≤_, _<_}
-use native.Mathlib.Nat.{add-zero, zero-add}
+use Prim.Native.Nat.{ℕ, suc, _+_, _-_, _*_, _^_, _≤_, _<_}
+use native.Mathlib.Nat.{add-zero, zero-add, add-assoc}
 use native.Mathlib.Omega.{arith}
 use lib.ListN.{length, getD, drop}
 use lib.Seq.{getD-drop, drop-drop}
@@ -18,13 +18,13 @@ use Rattle.requests.specs.declared.Found.the-variants.{At, Nowhere}
 use Rattle.requests.specs.declared.Look.{Look}
 use Rattle.requests.specs.declared.Scan.{Scan}
 use Rattle.requests.specs.Model.{serial-is, fits, any, find}
-use Rattle.requests.specs.Shares.{turned-away, count-one, count-all, count-of}
+use Rattle.requests.specs.Shares.{unit, counted}
 use Rattle.requests.specs.Region.{requestAt, requestsFrom, requestsOf, wordsOf}
 use Rattle.requests.specs.Answers.{gives, refused, no-such-request}
-use Rattle.requests.specs.Calls.{found-from, found, numbers, ahead, Finds, sought, asker, scanned}
+use Rattle.requests.specs.Calls.{found-from, found, numbers, ahead, Finds, sought, scanned}
 use Rattle.requests.proofs.Basics.{decide, both-left, both-right}
-use Rattle.requests.proofs.CountLaws.{zeros, turned-counted}
-use Rattle.requests.proofs.Placed.{serial-of}
+use Rattle.requests.proofs.CountLaws.{counted-most}
+use Rattle.requests.proofs.Placed.{serial-of, requests-few}
 
 -- the requests from place k on
 abbrev pub from : List ℕ → ℕ → List Request
@@ -89,15 +89,24 @@ module _ (w : List ℕ) where
 
 -- ---- counts
 
--- the requests from place k on count-all, one place further, and at the end
-module _ (w : List ℕ) (k : ℕ) where
-  pub counted-on : k < 64 → (getD w (k * 12) 0 ≡ 0 → ⊥) → (c : List ℕ) (r : Request) → r ≡ requestAt w k → (c′ : List ℕ) → c′ ≡ count-one (r .player) c → count-all c (from w k) ≡ count-all c′ (from w (k + 1))
-  unfolding count-all
-  counted-on h z c r er c′ ec = rw (from-used w k h z, ec, er)
+-- the requests from place k on counted, one place further, and at the end
+module _ (w : List ℕ) (k n : ℕ) where
+  pub counted-end : from w k ≡ [] → n ≡ n + counted (from w k)
+  unfolding counted
+  counted-end e = rw (e, add-zero)
 
-  pub counted-end : from w k ≡ [] → (c : List ℕ) → c ≡ count-all c (from w k)
-  unfolding count-all
-  counted-end e c = rw e
+  module _ (h : k < 64) (z : getD w (k * 12) 0 ≡ 0 → ⊥) (r : Request) (er : r ≡ requestAt w k) (u : ℕ) (eu : u ≡ unit (r .player)) where
+    pub counted-on : n + counted (from w k) ≡ n + u + counted (from w (k + 1))
+    unfolding counted
+    counted-on = rw (from-used w k h z, eu, er) (sym (add-assoc n (unit (requestAt w k .player)) (counted (from w (k + 1)))))
+
+    -- and the number stays in its word
+    pub counted-fits : n + counted (from w k) ≡ counted (requestsOf w) → n + u ≤ 64 * 2 ^ 56
+    counted-fits e =
+        let a = counted-on in
+        let b = counted-most (requestsOf w) in
+        let c = requests-few w in
+        omega arith
 
 -- ---- a search
 
@@ -151,21 +160,21 @@ found-as f x e = e ∙ x .answer
 
 module _ (x : Look) (w : List ℕ) where
   -- what the pass will tell, once place k is reached with this result of the test and these counts
-  abbrev pub scan-at : ℕ → Bool → List ℕ → Scan
-  scan-at k hit c =
-      record { used = k + length (from w k); hit = hit || any (sought x) (from w k); full = turned-away (count-of (count-all c (from w k))) (asker x) }
+  abbrev pub scan-at : ℕ → Bool → ℕ → Scan
+  scan-at k hit n = record { used = k + length (from w k); hit = hit || any (sought x) (from w k); counts = n + counted (from w k) }
 
-  pub scan-none : (length w ≡ 768 → ⊥) → record { used = 0; hit = false; full = false } ≡ scanned x w
-  scan-none h = rw (no-requests w h, and-false)
+  pub scan-none : (length w ≡ 768 → ⊥) → record { used = 0; hit = false; counts = 0 } ≡ scanned x w
+  unfolding counted
+  scan-none h = rw (no-requests w h)
 
-  pub scan-start : length w ≡ 768 → scan-at 0 false zeros ≡ scanned x w
-  scan-start h = rw (from-start w h, zero-add, turned-counted (requestsOf w) (asker x))
+  pub scan-start : length w ≡ 768 → scan-at 0 false 0 ≡ scanned x w
+  scan-start h = rw (from-start w h, zero-add, zero-add)
 
-  module _ (k : ℕ) (hit : Bool) (c : List ℕ) where
-    pub scan-end : from w k ≡ [] → (b : Bool) → b ≡ turned-away (count-of c) (asker x) → record { used = k; hit = hit; full = b } ≡ scan-at k hit c
-    scan-end e b eb = rw (← counted-end w k e c, e, add-zero, or-false, eb)
+  module _ (k : ℕ) (hit : Bool) (n : ℕ) where
+    pub scan-end : from w k ≡ [] → record { used = k; hit = hit; counts = n } ≡ scan-at k hit n
+    scan-end e = rw (← counted-end w k n e, e, add-zero, or-false)
 
-    pub scan-on : k < 64 → (getD w (k * 12) 0 ≡ 0 → ⊥) → (r : Request) → r ≡ requestAt w k → (b : Bool) → b ≡ hit || sought x r → (c′ : List ℕ) → c′ ≡ count-one (r .player) c → scan-at k hit c ≡ scan-at (k + 1) b c′
-    scan-on h z r er b eb c′ ec =
-        let n : k + suc (length (from w (k + 1))) ≡ k + 1 + length (from w (k + 1)) = omega arith in
-        rw (counted-on w k h z c r er c′ ec, from-used w k h z, eb, er, n, or-assoc)
+    pub scan-on : (h : k < 64) (z : getD w (k * 12) 0 ≡ 0 → ⊥) (r : Request) → r ≡ requestAt w k → (b : Bool) → b ≡ hit || sought x r → (u : ℕ) → u ≡ unit (r .player) → scan-at k hit n ≡ scan-at (k + 1) b (n + u)
+    scan-on h z r er b eb u eu =
+        let m : k + suc (length (from w (k + 1))) ≡ k + 1 + length (from w (k + 1)) = omega arith in
+        rw (counted-on w k n h z r er u eu, from-used w k h z, eb, er, m, or-assoc)

@@ -14,7 +14,7 @@ use Rattle.requests.specs.declared.Look.{Look}
 use Rattle.requests.specs.declared.Look.the-variants.{Requesting, Writing, Using}
 use Rattle.requests.specs.declared.Scan.{Scan}
 use Rattle.requests.specs.Model.{places, serial-is, by, pending, fits, requesting, writing, using-entry, any, find, mark-abandoned}
-use Rattle.requests.specs.Shares.{no-place}
+use Rattle.requests.specs.Shares.{counted}
 use Rattle.requests.specs.Region.{requestOf, whole, requestsOf, wordsOf}
 use Rattle.requests.specs.Answers.{Numbers, gives, refused, no-such-request}
 
@@ -55,15 +55,9 @@ sought (Requesting p g) r = requesting p g r
 sought (Writing p e) r = writing p e r
 sought (Using p e) r = using-entry p e r
 
--- whose step it is
-abbrev pub asker : Look → ℕ
-asker (Requesting p g) = p
-asker (Writing p e) = p
-asker (Using p e) = p
-
--- what a pass tells: how many requests there are, whether one is looked for, and whether no place is left for one more
+-- what a pass tells: how many requests there are, whether one is looked for, and the counts of all by player
 abbrev pub scan-of : Look → List Request → Scan
-scan-of x rs = record { used = length rs; hit = any (sought x) rs; full = no-place (asker x) rs }
+scan-of x rs = record { used = length rs; hit = any (sought x) rs; counts = counted rs }
 
 abbrev pub scanned : Look → List ℕ → Scan
 scanned x w = scan-of x (requestsOf w)

@@ -3,7 +3,7 @@
 use mathlib.Core.Path.{_≡_, refl}
 use mathlib.Core.Bool.{Bool, true, false, cond}
 use mathlib.Core.List.{List, [], _∷_, _++_, map}
-use Prim.Native.Nat.{ℕ, zero, suc}
+use Prim.Native.Nat.{ℕ, zero, suc, _^_}
 use lib.Dec.{eqb}
 use lib.ListN.{replicate}
 use Rattle.store.specs.Calls.{reply}
@@ -13,6 +13,7 @@ use Rattle.requests.specs.declared.LentRequest.{LentRequest}
 use Rattle.requests.specs.declared.Fit.the-variants.{Undelivered, Answerable, Pending, Abandoned}
 use Rattle.requests.specs.declared.Look.the-variants.{Writing, Using}
 use Rattle.requests.specs.Model.{loader, new-request, mark-abandoned, mark-delivered}
+use Rattle.requests.specs.Shares.{turned-away, counted as counted-requests, count-in}
 use Rattle.requests.specs.Region.{requestOf, requestsFrom, requestsOf, placed, regionOf, fields-hold, outcome-holds, request-holds, words-fit, places-hold, valid}
 use Rattle.requests.specs.Answers.{gives, refused}
 use Rattle.requests.specs.Calls.{found-numbers, scanned, overlapped-from, crossing, crossed}
@@ -67,8 +68,8 @@ twice-case = refl
 -- a read of entry 45 by player 3 is not looked for by a read, and is by a write there
 pub sought-case :
     map (λ x. scanned x (regionOf (request (place 1 3 0 0 0) ∷ []))) (Writing 3 45 ∷ Using 3 45 ∷ Using 3 44 ∷ [])
-    ≡ map (λ b. record { used = 1; hit = b; full = false }) (false ∷ true ∷ false ∷ [])
-unfolding requestOf requestsFrom requestsOf placed
+    ≡ map (λ b. record { used = 1; hit = b; counts = 128 ^ 3 }) (false ∷ true ∷ false ∷ [])
+unfolding requestOf requestsFrom requestsOf placed counted-requests
 sought-case = refl
 
 -- which marks it
@@ -105,9 +106,16 @@ pub shares-case :
 unfolding requestOf requestsFrom requestsOf placed fields-hold outcome-holds request-holds words-fit places-hold valid at-most
 shares-case = refl
 
+-- the counts of a region, by player: the loader's are the ninth, and a number above it has none
+abbrev some-counts : ℕ
+some-counts = scanned (Writing 0 9) (regionOf (some 0 22 1 ++ some 1 5 23 ++ some 2 6 28 ++ some 9 1 34)) .counts
+
+pub counts-case : map (count-in some-counts) (0 ∷ 1 ∷ 2 ∷ 3 ∷ 7 ∷ loader ∷ []) ≡ 22 ∷ 5 ∷ 6 ∷ 0 ∷ 0 ∷ 0 ∷ []
+unfolding requestOf requestsFrom requestsOf placed counted-requests
+counts-case = refl
+
 -- no place is left for a 23rd request of player 0 and a seventh of player 2, and one is for a sixth of player 1 and a first of player 3; none for the
 -- loader, nor for a number above it, whoever has so many
-pub full-case :
-    map (λ p. scanned (Writing p 9) (regionOf (some 0 22 1 ++ some 1 5 23 ++ some 2 6 28)) .full) (0 ∷ 1 ∷ 2 ∷ 3 ∷ loader ∷ 9 ∷ []) ≡ true ∷ false ∷ true ∷ false ∷ true ∷ true ∷ []
-unfolding requestOf requestsFrom requestsOf placed
+pub full-case : map (turned-away (count-in some-counts)) (0 ∷ 1 ∷ 2 ∷ 3 ∷ loader ∷ 9 ∷ []) ≡ true ∷ false ∷ true ∷ false ∷ true ∷ true ∷ []
+unfolding requestOf requestsFrom requestsOf placed counted-requests
 full-case = refl

@@ -2,9 +2,8 @@
 -- Assumes nothing.
 use mathlib.Core.Bool.{Bool, cond, _&&_, _||_}
 use mathlib.Core.List.{List, [], _∷_}
-use Prim.Native.Nat.{ℕ, zero, suc, _+_, _-_, _≤_}
+use Prim.Native.Nat.{ℕ, zero, suc, _+_, _-_, _*_, _/_, _%_, _^_}
 use lib.Dec.{leb}
-use lib.ListN.{getD, set}
 use Rattle.requests.specs.declared.Request.{Request}
 use Rattle.requests.specs.Model.{loader, by}
 
@@ -47,25 +46,17 @@ turned-away c p = (leb loader p || leb own-places (c p)) && leb common-places (c
 abbrev pub no-place : ℕ → List Request → Bool
 no-place p rs = turned-away (λ q. count-by q rs) p
 
--- ---- counts, as the passes over the places keep them
+-- ---- the counts as one number, which a pass over the places adds up: seven binary digits for each player, and for the loader
 
--- how many counts there are: one for each player, and the loader's
-abbrev pub count-length : ℕ
-count-length = 9
+-- what one request of player p adds; a number above the loader's has no count
+abbrev pub unit : ℕ → ℕ
+unit p = cond (leb p loader) (2 ^ (7 * p)) 0
 
--- one more request of player p; a number above the loader's has no count
-unfoldable pub count-one : ℕ → List ℕ → List ℕ
-count-one p c = set c p (getD c p 0 + 1)
+-- the requests of a list counted
+unfoldable pub counted : List Request → ℕ
+counted [] = 0
+counted (r ∷ rs) = unit (r .player) + counted rs
 
--- the counts after the requests of a list
-unfoldable pub count-all : List ℕ → List Request → List ℕ
-count-all c [] = c
-count-all c (r ∷ rs) = count-all (count-one (r .player) c) rs
-
--- the count of player p
-abbrev pub count-of : List ℕ → ℕ → ℕ
-count-of c p = getD c p 0
-
--- no count is above n
-abbrev pub Within : ℕ → List ℕ → Type 0
-Within n c = (p : ℕ) → count-of c p ≤ n
+-- the count of player p in such a number
+abbrev pub count-in : ℕ → ℕ → ℕ
+count-in n p = n / 2 ^ (7 * p) % 128

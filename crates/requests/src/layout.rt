@@ -32,9 +32,6 @@ pub const SECOND: usize = 11;
 pub const LOADER: u8 = 8;
 
 // The places that each player has of its own, and those that are common to the players and the loader.
-pub const OWN_PLACES: u8 = 6;
+pub const OWN_PLACES: u64 = 6;
 
-pub const COMMON_PLACES: u32 = 16;
-
-// Requests are counted for each player, and for the loader.
-pub const COUNTS: usize = 9;
+pub const COMMON_PLACES: u64 = 16;

@@ -7,7 +7,7 @@ pub mod lent;
 mod places;
 pub mod region;
 mod rules;
-mod shares;
+pub mod shares;
 mod tests;
 
 // A request in flight (document: row). Fields that its kind lacks are 0, and so is the outcome before delivery.
@@ -77,10 +77,10 @@ pub enum Look {
     Using { player: u8, entry: u8 },
 }
 
-// What a pass over the requests tells: how many there are, whether one is of those that are looked for, and whether no place is left for one
-// more of the player.
+// What a pass over the requests tells: how many there are, whether one is of those that are looked for, and how many each player has
+// (`shares::is_full`).
 pub struct Scan {
     pub used: usize,
     pub hit: bool,
-    pub full: bool,
+    pub counts: u64,
 }

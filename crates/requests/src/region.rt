@@ -51,7 +51,7 @@ pub fn find(region: &[u32], serial: u32, fit: Fit) -> Found
     Found::Nowhere
 }
 
-// How many requests there are, whether one is looked for, and whether no place is left for one more of the player.
+// How many requests there are, whether one is looked for, and how many each player has.
 pub fn scan(region: &[u32], look: Look) -> Scan
     ensures { λ r. ⌜ r ≡ scanned look (now (region .entry)) ⌝ }
 {
@@ -59,22 +59,22 @@ pub fn scan(region: &[u32], look: Look) -> Scan
         return Scan {
             used: 0,
             hit: false,
-            full: false,
+            counts: 0,
         };
     }
-    let mut counts = [0u8; layout::COUNTS];
     let mut hit = false;
+    let mut counts: u64 = 0;
     let mut k = 0;
     while places::is_used(region, k) {
         let r = places::request_at(region, k);
         hit = tests::either(hit, tests::is_sought(r, look));
-        shares::count(&mut counts, r.player);
+        counts += shares::unit(r.player);
         k += 1;
     }
     Scan {
         used: k,
         hit,
-        full: shares::turn_away(&counts, tests::asker(look)),
+        counts,
     }
 }
 

@@ -150,7 +150,7 @@ pub(crate) fn places_hold(region: &[u32], last: u32) -> bool
     requires { ⌜ length (now region) ≡ region-words ⌝ }
     ensures { λ b. ⌜ b ≡ places-hold last 0 64 (now (region .entry)) && shares-hold (requestsOf (now (region .entry))) ⌝ }
 {
-    let mut counts = [0u8; layout::COUNTS];
+    let mut counts: u64 = 0;
     let mut serial: u32 = 0;
     let mut k = 0;
     while places::is_used(region, k) {
@@ -165,12 +165,12 @@ pub(crate) fn places_hold(region: &[u32], last: u32) -> bool
         if !request_holds(r, last) {
             return false;
         }
-        shares::count(&mut counts, r.player);
+        counts += shares::unit(r.player);
         serial = next;
         k += 1;
     }
     if !words::are_zero(&region[k * layout::SIZE..]) {
         return false;
     }
-    shares::are_kept(&counts)
+    shares::are_kept(counts)
 }

@@ -7,7 +7,7 @@ use store::Range;
 ghost use mathlib.Core.Path.{_≡_};
 ghost use mathlib.Core.Bool.{_||_};
 ghost use Rattle.requests.specs.Model.{fits, requesting, writing, using-entry};
-ghost use Rattle.requests.specs.Calls.{sought, asker, remains};
+ghost use Rattle.requests.specs.Calls.{sought, remains};
 
 // A pending guard request of the player that shares an entry with the range.
 pub(crate) fn is_requesting(r: Request, player: u8, range: Range) -> bool
@@ -68,17 +68,6 @@ pub(crate) fn is_sought(r: Request, look: Look) -> bool
         Look::Requesting { player, range } => is_requesting(r, player, range),
         Look::Writing { player, entry } => is_writing(r, player, entry),
         Look::Using { player, entry } => is_using(r, player, entry),
-    }
-}
-
-// Whose step it is that looks.
-pub(crate) fn asker(look: Look) -> u8
-    ensures { λ p. ⌜ p ≡ asker look ⌝ }
-{
-    match look {
-        Look::Requesting { player, range } => player,
-        Look::Writing { player, entry } => player,
-        Look::Using { player, entry } => player,
     }
 }
 

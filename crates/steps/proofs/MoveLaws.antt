@@ -9,9 +9,10 @@ use Rattle.store.specs.declared.Reply.{Reply}
 use Rattle.requests.specs.declared.Look.{Look}
 use Rattle.requests.specs.declared.Scan.{Scan}
 use Rattle.requests.specs.Model.{places, loader, any}
-use Rattle.requests.specs.Shares.{no-place}
+use Rattle.requests.specs.Shares.{turned-away, no-place, count-in}
 use Rattle.requests.specs.Region.{regionOf}
-use Rattle.requests.specs.Calls.{scan-of, scanned, sought, asker}
+use Rattle.requests.specs.Calls.{scan-of, scanned, sought}
+use Rattle.requests.proofs.CountLaws.{turned-counted}
 use Rattle.requests.proofs.RegionLaws.{scanned-region}
 use Rattle.players.specs.Replies.{refusal}
 use Rattle.players.specs.Rules.{State, Result}
@@ -63,9 +64,11 @@ module _ {t : List ℕ} {s : State} (o : Ok s) (e : t ≡ tableOf s) where
     pub hit-is : (b : Bool) → r .hit ≡ b → any (sought x) (s .requests) ≡ b
     hit-is b eb = sym (ap (λ (y : Scan). y .hit) scan-is) ∙ eb
 
-    pub full-is : (b : Bool) → r .full ≡ b → no-place (asker x) (s .requests) ≡ b
-    full-is b eb = sym (ap (λ (y : Scan). y .full) scan-is) ∙ eb
+    -- whether no place is left for the player, by its counts
+    module _ (p : ℕ) {full : Bool} (ef : full ≡ turned-away (count-in (r .counts)) p) where
+      pub full-is : (b : Bool) → full ≡ b → no-place p (s .requests) ≡ b
+      full-is b eb =
+          sym (turned-counted (s .requests) (few-requests o) p) ∙ ap (λ (y : Scan). turned-away (count-in (y .counts)) p) (sym scan-is) ∙ sym ef ∙ eb
 
-    -- a place is left
-    pub room-is : r .full ≡ false → asker x ≤ loader → length (s .requests) < places
-    room-is eb h = place-free o (asker x) h (full-is false eb)
+      pub room-is : full ≡ false → p ≤ loader → length (s .requests) < places
+      room-is eb h = place-free o p h (full-is false eb)

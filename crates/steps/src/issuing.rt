@@ -6,6 +6,7 @@ use requests::Look;
 use requests::Request;
 use requests::kinds;
 use requests::region;
+use requests::shares;
 use store::Range;
 use store::Reply;
 use store::codes;
@@ -108,7 +109,7 @@ pub(crate) fn request_guard(players: &mut [u32], player: u8, range: Range) -> Re
     if scan.hit {
         return refuse(codes::ALREADY_REQUESTED);
     }
-    if scan.full {
+    if shares::is_full(scan.counts, player) {
         return refuse(codes::NO_PLACE_LEFT);
     }
     let last = players[layout::LAST];
@@ -141,7 +142,7 @@ pub(crate) fn read(players: &mut [u32], player: u8, entry: u8) -> Reply
         &players[layout::REQUESTS..layout::REQUESTS_END],
         Look::Writing { player, entry },
     );
-    if scan.full {
+    if shares::is_full(scan.counts, player) {
         return refuse(codes::NO_PLACE_LEFT);
     }
     let last = players[layout::LAST];
@@ -192,7 +193,7 @@ pub(crate) fn write(players: &mut [u32], player: u8, entry: u8, value: u32) -> R
         &players[layout::REQUESTS..layout::REQUESTS_END],
         Look::Using { player, entry },
     );
-    if scan.full {
+    if shares::is_full(scan.counts, player) {
         return refuse(codes::NO_PLACE_LEFT);
     }
     let last = players[layout::LAST];

@@ -5,6 +5,7 @@ use players::layout;
 use requests::Look;
 use requests::kinds;
 use requests::region;
+use requests::shares;
 use store::Reply;
 use store::codes;
 use store::layout::OPEN;
@@ -26,7 +27,7 @@ pub(crate) fn load(players: &mut [u32], entry: u8, value: u32) -> Reply
         &players[layout::REQUESTS..layout::REQUESTS_END],
         Look::Writing { player, entry },
     );
-    if scan.full {
+    if shares::is_full(scan.counts, player) {
         return refuse(codes::NO_PLACE_LEFT);
     }
     let last = players[layout::LAST];

@@ -1,23 +1,26 @@
 -- `requests::rules::places_hold` meets its contract. The loop's invariant: the test of the places that are left is that of all, and so are the counts.
 -- Assumes nothing.
-use mathlib.Core.Path.{_≡_, refl, sym, ap, _∙_, subst}
+use mathlib.Core.Path.{_≡_, refl, sym, ap, _∙_}
 use Prim.Native.Nat.{_+_, _≤_, _-_, _*_}
+use native.Mathlib.Nat.{zero-add}
 use native.Mathlib.Omega.{arith}
-use lib.ListN.{length, drop}
+use lib.ListN.{drop}
 use borrow.Author.Needs.{needs}
 use borrow.Author.Tests.{not-true, not-false}
 use Rattle.store.specs.Table.{at-most}
 use Rattle.store.proofs.Lists.{rest}
-use Rattle.requests.specs.Shares.{count-length, count-all, Within}
+use Rattle.requests.specs.Shares.{counted}
 use Rattle.requests.specs.Region.{requestsOf, request-holds, places-hold}
-use Rattle.requests.proofs.CountLaws.{zeros, zeros-within, more-long, more-within, within-more}
-use Rattle.requests.proofs.ScanLaws.{from, from-start, from-none, is-used, counted-on, counted-end}
+use Rattle.requests.proofs.ScanLaws.{from, from-start, from-none, is-used, counted-on, counted-end, counted-fits}
 use Rattle.requests.proofs.PlaceLaws.{walk-low, walk-unfit, walk-bad, walk-on, walk-rest, places-broken, shares-told}
 use Rattle.requests.proofs.rules.places_hold.Statement.{statement}
 use Rattle.requests.proofs.rules.places_hold.Tie as tie
 
 abbrev Inv-loop : tie.InvT-loop
-Inv-loop region last counts₀ serial₀ k₀ counts serial k = (k ≤ 64) × (length counts ≡ count-length) × Within k counts × (places-hold last serial (64 - k) (drop (k * 12) region) ≡ places-hold last 0 64 region) × (count-all counts (from region k) ≡ count-all zeros (requestsOf region))
+Inv-loop region last counts₀ serial₀ k₀ counts serial k =
+    (k ≤ 64)
+    × (places-hold last serial (64 - k) (drop (k * 12) region) ≡ places-hold last 0 64 region)
+    × (counts + counted (from region k) ≡ counted (requestsOf region))
 
 abbrev μ-loop : tie.MeasureT-loop
 μ-loop region last counts₀ serial₀ k₀ counts serial k = 64 - k
@@ -25,7 +28,7 @@ abbrev μ-loop : tie.MeasureT-loop
 loop-holds : tie.Need-loop-holds Inv-loop μ-loop
 loop-holds c =
     let r = c .before .args .region .now in
-    (omega arith, refl, zeros-within, refl, ap (count-all zeros) (from-start r (c .before .pre)))
+    (omega arith, refl, zero-add (counted (from r 0)) ∙ ap counted (from-start r (c .before .pre)))
 
 is-used-requires : tie.Need-is-used-requires Inv-loop μ-loop
 is-used-requires c κs = c .before .before .pre
@@ -52,7 +55,7 @@ returns c =
     let l = u .before .loop in
     let a = u .before .before .before .args in
     let h = is-used (a .region .now) (l .k) (sym (u .is-used .ensures) ∙ t .if1 .taken) in
-    places-broken (a .region .now) (a .last) (sym (l .inv .3) ∙ walk-low (a .region .now) (a .last) (l .serial) (l .k) (h .0) (h .1) (c .if2 .taken))
+    places-broken (a .region .now) (a .last) (sym (l .inv .1) ∙ walk-low (a .region .now) (a .last) (l .serial) (l .k) (h .0) (h .1) (c .if2 .taken))
 
 words-fit-requires : tie.Need-words-fit-requires Inv-loop μ-loop
 words-fit-requires c κs =
@@ -72,7 +75,7 @@ returns-2 c =
     let a = u .before .before .before .args in
     let h = is-used (a .region .now) (l .k) (sym (u .is-used .ensures) ∙ t .if1 .taken) in
     places-broken (a .region .now) (a .last)
-    (sym (l .inv .3) ∙ walk-unfit (a .region .now) (a .last) (l .serial) (l .k) (h .0) (h .1) (omega (arith, e .if2 .left)) (sym (f .words-fit .ensures) ∙ not-true _ (c .if3 .taken)))
+    (sym (l .inv .1) ∙ walk-unfit (a .region .now) (a .last) (l .serial) (l .k) (h .0) (h .1) (omega (arith, e .if2 .left)) (sym (f .words-fit .ensures) ∙ not-true _ (c .if3 .taken)))
 
 request-at-requires : tie.Need-request-at-requires Inv-loop μ-loop
 request-at-requires c κs =
@@ -98,36 +101,16 @@ returns-3 c =
     let a = u .before .before .before .args in
     let h = is-used (a .region .now) (l .k) (sym (u .is-used .ensures) ∙ t .if1 .taken) in
     places-broken (a .region .now) (a .last)
-    (sym (l .inv .3)
+    (sym (l .inv .1)
     ∙ walk-bad (a .region .now) (a .last) (l .serial) (l .k) (h .0) (h .1) (omega (arith, e .if2 .left)) (sym (f .words-fit .ensures) ∙ not-false _ (g .if3 .left))
     (ap (request-holds (a .last)) (sym (q .request-at .ensures)) ∙ sym (k .request-holds .ensures) ∙ not-true _ (c .if4 .taken)))
 
-slice-aggregate-count : tie.Need-slice-aggregate-count Inv-loop μ-loop
-slice-aggregate-count c = sym (c .before .before .before .before .before .before .before .before .before .before .loop .inv .1)
+unit-requires : tie.Need-unit-requires Inv-loop μ-loop
+unit-requires c κs = tt
 
-count-requires : tie.Need-count-requires Inv-loop μ-loop
-count-requires c κs =
-    let t = c .before .before .before .before .before .before .before .before in
-    let u = t .before in
-    let l = u .before .loop in
-    let h = is-used (u .before .before .before .args .region .now) (l .k) (sym (u .is-used .ensures) ∙ t .if1 .taken) .0 in
-    (l .inv .1, within-more (l .k) 63 (l .counts) (omega arith) (l .inv .2))
-
-add-k : tie.Need-add-k Inv-loop μ-loop
-add-k c = omega arith
-
-loop-less : tie.Need-loop-less Inv-loop μ-loop
-loop-less c =
-    let t = c .before .before .before .before .before .before .before .before .before .before in
-    let u = t .before in
-    let l = u .before .loop in
-    let h = is-used (u .before .before .before .args .region .now) (l .k) (sym (u .is-used .ensures) ∙ t .if1 .taken) .0 in
-    omega arith
-
-loop-again : tie.Need-loop-again Inv-loop μ-loop
-loop-again c =
-    let n = c .before in
-    let d = n .before .before in
+add-counts : tie.Need-add-counts Inv-loop μ-loop
+add-counts c =
+    let d = c .before in
     let k = d .before in
     let q = k .before in
     let g = q .before in
@@ -138,14 +121,44 @@ loop-again c =
     let l = u .before .loop in
     let a = u .before .before .before .args in
     let h = is-used (a .region .now) (l .k) (sym (u .is-used .ensures) ∙ t .if1 .taken) in
-    let p = q .request-at .result .player in (
+    omega (arith, counted-fits (a .region .now) (l .k) (l .counts) (h .0) (h .1) _ (q .request-at .ensures) _ (c .unit .ensures) (l .inv .2))
+
+add-k : tie.Need-add-k Inv-loop μ-loop
+add-k c = omega arith
+
+loop-less : tie.Need-loop-less Inv-loop μ-loop
+loop-less c =
+    let d = c .before in
+    let k = d .before in
+    let q = k .before in
+    let g = q .before in
+    let f = g .before in
+    let e = f .before in
+    let t = e .before .before in
+    let u = t .before in
+    let l = u .before .loop in
+    let a = u .before .before .before .args in
+    let h = is-used (a .region .now) (l .k) (sym (u .is-used .ensures) ∙ t .if1 .taken) in
+    omega (arith, h .0)
+
+loop-again : tie.Need-loop-again Inv-loop μ-loop
+loop-again c =
+    let d = c .before in
+    let k = d .before in
+    let q = k .before in
+    let g = q .before in
+    let f = g .before in
+    let e = f .before in
+    let t = e .before .before in
+    let u = t .before in
+    let l = u .before .loop in
+    let a = u .before .before .before .args in
+    let h = is-used (a .region .now) (l .k) (sym (u .is-used .ensures) ∙ t .if1 .taken) in (
       omega (arith, h .0),
-      ap length (n .count .ensures) ∙ more-long p (l .counts) ∙ l .inv .1,
-      subst (Within (l .k + 1)) (sym (n .count .ensures)) (more-within p (l .counts) (l .k) (l .inv .2)),
       sym (walk-on (a .region .now) (a .last) (l .serial) (l .k) (h .0) (h .1) (omega (arith, e .if2 .left)) (sym (f .words-fit .ensures) ∙ not-false _ (g .if3 .left))
           (ap (request-holds (a .last)) (sym (q .request-at .ensures)) ∙ sym (k .request-holds .ensures) ∙ not-false _ (d .if4 .left)))
-          ∙ l .inv .3,
-      sym (counted-on (a .region .now) (l .k) (h .0) (h .1) (l .counts) _ (q .request-at .ensures) _ (n .count .ensures)) ∙ l .inv .4,
+          ∙ l .inv .1,
+      sym (counted-on (a .region .now) (l .k) (l .counts) (h .0) (h .1) _ (q .request-at .ensures) _ (c .unit .ensures)) ∙ l .inv .2,
     )
 
 mul-are-zero : tie.Need-mul-are-zero Inv-loop μ-loop
@@ -175,28 +188,23 @@ returns-4 c =
     let s = u .before .before .before in
     let r = s .args .region .now in
     let n = sym (u .is-used .ensures) ∙ e .if1 .left in
-    let w = sym (walk-rest r (s .args .last) (l .serial) (l .k) (s .pre) n) ∙ l .inv .3 in
+    let w = sym (walk-rest r (s .args .last) (l .serial) (l .k) (s .pre) n) ∙ l .inv .1 in
     places-broken r (s .args .last) (sym w ∙ sym (z .are-zero .ensures ∙ ap (at-most 0) (rest r (l .k * 12))) ∙ not-true _ (c .if5 .taken))
 
-slice-aggregate-are-kept : tie.Need-slice-aggregate-are-kept Inv-loop μ-loop
-slice-aggregate-are-kept c = sym (c .before .before .before .before .before .before .loop .inv .1)
-
 are-kept-requires : tie.Need-are-kept-requires Inv-loop μ-loop
-are-kept-requires c κs =
-    let l = c .before .before .before .before .before .before .loop in
-    (l .inv .1, within-more (l .k) 64 (l .counts) (l .inv .0) (l .inv .2))
+are-kept-requires c κs = tt
 
 returns-5 : tie.Need-returns-5 Inv-loop μ-loop
 returns-5 c =
-    let z = c .before .before .before in
+    let z = c .before .before in
     let e = z .before .before in
     let u = e .before in
     let l = u .before .loop in
     let s = u .before .before .before in
     let r = s .args .region .now in
     let n = sym (u .is-used .ensures) ∙ e .if1 .left in
-    let w = sym (walk-rest r (s .args .last) (l .serial) (l .k) (s .pre) n) ∙ l .inv .3 in
-    shares-told r (s .args .last) (sym w ∙ sym (z .are-zero .ensures ∙ ap (at-most 0) (rest r (l .k * 12))) ∙ not-false _ (c .before .before .if5 .left)) (l .counts) (counted-end r (l .k) (from-none r (l .k) n) (l .counts) ∙ l .inv .4) _ (c .are-kept .ensures)
+    let w = sym (walk-rest r (s .args .last) (l .serial) (l .k) (s .pre) n) ∙ l .inv .1 in
+    shares-told r (s .args .last) (sym w ∙ sym (z .are-zero .ensures ∙ ap (at-most 0) (rest r (l .k * 12))) ∙ not-false _ (c .before .if5 .left)) (l .counts) (counted-end r (l .k) (l .counts) (from-none r (l .k) n) ∙ l .inv .2) _ (c .are-kept .ensures)
 
 pub places-hold-spec : {M : Type 1} → statement M
 places-hold-spec =
@@ -215,8 +223,8 @@ places-hold-spec =
     request-at-requires
     request-holds-requires
     returns-3
-    slice-aggregate-count
-    count-requires
+    unit-requires
+    add-counts
     add-k
     loop-less
     loop-again
@@ -227,6 +235,5 @@ places-hold-spec =
     part-are-zero-end
     are-zero-requires
     returns-4
-    slice-aggregate-are-kept
     are-kept-requires
     returns-5)

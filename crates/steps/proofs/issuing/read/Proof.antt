@@ -62,6 +62,9 @@ part-scan-end c = search needs
 scan-requires : tie.Need-scan-requires
 scan-requires c κs = search needs
 
+is-full-requires : tie.Need-is-full-requires
+is-full-requires c κs = search needs
+
 refuse-requires-2 : tie.Need-refuse-requires-2
 refuse-requires-2 c κs = search needs
 
@@ -70,12 +73,13 @@ same-length-2 c = search needs
 
 returns-3 : tie.Need-returns-3
 returns-3 c =
-    let s = c .before .before in
+    let i = c .before .before in
+    let s = i .before in
     let e2 = s .before .before .before in
     let e1 = e2 .before .before .before in
     let x = e1 .before .before in
     let a = x .args in
-    read-full (a .players .now) (x .pre) (a .player) (a .entry) (omega (arith, e1 .if1 .left)) (omega (arith, x .fits)) (sym (e2 .if2 .left) ∙ e2 .before .is-hit .ensures) (s .scan .ensures) (c .before .if3 .taken) _ (c .refuse2 .ensures)
+    read-full (a .players .now) (x .pre) (a .player) (a .entry) (omega (arith, e1 .if1 .left)) (omega (arith, x .fits)) (sym (e2 .if2 .left) ∙ e2 .before .is-hit .ensures) (s .scan .ensures) (i .is-full .ensures) (c .before .if3 .taken) _ (c .refuse2 .ensures)
 
 slice-read-last : tie.Need-slice-read-last
 slice-read-last c = search needs
@@ -89,12 +93,13 @@ same-length-3 c = search needs
 returns-4 : tie.Need-returns-4
 returns-4 c =
     let e3 = c .before .before .before in
-    let s = e3 .before in
+    let i = e3 .before in
+    let s = i .before in
     let e2 = s .before .before .before in
     let e1 = e2 .before .before .before in
     let x = e1 .before .before in
     let a = x .args in
-    read-spent (a .players .now) (x .pre) (a .player) (a .entry) (omega (arith, e1 .if1 .left)) (omega (arith, x .fits)) (sym (e2 .if2 .left) ∙ e2 .before .is-hit .ensures) (s .scan .ensures) (e3 .if3 .left) (omega (arith, c .before .if4 .taken)) _ (c .refuse3 .ensures)
+    read-spent (a .players .now) (x .pre) (a .player) (a .entry) (omega (arith, e1 .if1 .left)) (omega (arith, x .fits)) (sym (e2 .if2 .left) ∙ e2 .before .is-hit .ensures) (s .scan .ensures) (i .is-full .ensures) (e3 .if3 .left) (omega (arith, c .before .if4 .taken)) _ (c .refuse3 .ensures)
 
 live-guard-requires : tie.Need-live-guard-requires
 live-guard-requires c κs = search needs
@@ -122,12 +127,13 @@ returns-5 c =
     let v = c .before .before .before .before .before .before in
     let e4 = v .before .before in
     let e3 = e4 .before .before in
-    let s = e3 .before in
+    let i = e3 .before in
+    let s = i .before in
     let e2 = s .before .before .before in
     let e1 = e2 .before .before .before in
     let x = e1 .before .before in
     let a = x .args in
-    read-done (a .players .now) (x .pre) (a .player) (a .entry) (omega (arith, e1 .if1 .left)) (omega (arith, x .fits)) (sym (e2 .if2 .left) ∙ e2 .before .is-hit .ensures) (s .scan .ensures) (e3 .if3 .left) (omega (arith, e4 .if4 .left)) _ (v .live-guard .ensures)
+    read-done (a .players .now) (x .pre) (a .player) (a .entry) (omega (arith, e1 .if1 .left)) (omega (arith, x .fits)) (sym (e2 .if2 .left) ∙ e2 .before .is-hit .ensures) (s .scan .ensures) (i .is-full .ensures) (e3 .if3 .left) (omega (arith, e4 .if4 .left)) _ (v .live-guard .ensures)
     _ (c .before .before .before .before .for-entry .ensures) _ (c .before .before .before .add .ensures) _ (c .issued .ensures)
 
 pub read-spec : {M : Type 1} → statement M
@@ -151,6 +157,7 @@ read-spec =
     part-scan-start
     part-scan-end
     scan-requires
+    is-full-requires
     refuse-requires-2
     same-length-2
     returns-3

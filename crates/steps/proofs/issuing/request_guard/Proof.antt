@@ -111,6 +111,9 @@ returns-5 c =
     let s = c .before .before in
     request-again (asks (s .before .before .before)) (s .scan .ensures) (c .before .if5 .taken) _ (c .refuse5 .ensures)
 
+is-full-requires : tie.Need-is-full-requires
+is-full-requires c κs = tt
+
 refuse-requires-6 : tie.Need-refuse-requires-6
 refuse-requires-6 c κs = tt
 
@@ -119,12 +122,13 @@ same-length-3 c = refl
 
 returns-6 : tie.Need-returns-6
 returns-6 c =
-    let e5 = c .before .before in
+    let i = c .before .before in
+    let e5 = i .before in
     let s = e5 .before in
-    request-full (asks (s .before .before .before)) (s .scan .ensures) (e5 .if5 .left) (c .before .if6 .taken) _ (c .refuse6 .ensures)
+    request-full (asks (s .before .before .before)) (s .scan .ensures) (e5 .if5 .left) (i .is-full .ensures) (c .before .if6 .taken) _ (c .refuse6 .ensures)
 
 slice-read-last : tie.Need-slice-read-last
-slice-read-last c = has-last (start (c .before .before .before .before .before .before) .pre)
+slice-read-last c = has-last (start (c .before .before .before .before .before .before .before) .pre)
 
 refuse-requires-7 : tie.Need-refuse-requires-7
 refuse-requires-7 c κs = tt
@@ -135,22 +139,23 @@ same-length-4 c = refl
 returns-7 : tie.Need-returns-7
 returns-7 c =
     let e6 = c .before .before .before in
-    let e5 = e6 .before in
+    let i = e6 .before in
+    let e5 = i .before in
     let s = e5 .before in
-    request-spent (asks (s .before .before .before)) (s .scan .ensures) (e5 .if5 .left) (e6 .if6 .left) (c .before .if7 .taken) _ (c .refuse7 .ensures)
+    request-spent (asks (s .before .before .before)) (s .scan .ensures) (e5 .if5 .left) (i .is-full .ensures) (e6 .if6 .left) (c .before .if7 .taken) _ (c .refuse7 .ensures)
 
 mul-i : tie.Need-mul-i
-mul-i c = cells (c .before .before .before .before .before .before .before) .row
+mul-i c = cells (c .before .before .before .before .before .before .before .before) .row
 
 add-clear : tie.Need-add-clear
-add-clear c = cells (c .before .before .before .before .before .before .before .before) .first
+add-clear c = cells (c .before .before .before .before .before .before .before .before .before) .first
 
 add-clear-2 : tie.Need-add-clear-2
-add-clear-2 c = cells (c .before .before .before .before .before .before .before .before) .last
+add-clear-2 c = cells (c .before .before .before .before .before .before .before .before .before) .last
 
 clear-requires : tie.Need-clear-requires
 clear-requires c κs =
-    let e4 = c .before .before .before .before .before .before .before .before in
+    let e4 = c .before .before .before .before .before .before .before .before .before in
     let k = cells e4 in
     (start e4 .pre, k .ordered, k .inside)
 
@@ -161,7 +166,7 @@ for-guard-requires : tie.Need-for-guard-requires
 for-guard-requires c κs = tt
 
 add-requires : tie.Need-add-requires
-add-requires c κs = c .before .before .before .before .clear .kept .0 ∙ start (c .before .before .before .before .before .before .before .before .before .before .before .before .before) .pre
+add-requires c κs = c .before .before .before .before .clear .kept .0 ∙ start (c .before .before .before .before .before .before .before .before .before .before .before .before .before .before) .pre
 
 add-issued : tie.Need-add-issued
 add-issued c = next-fits _ (c .before .before .before .before .before .before .before .before .before .if7 .left)
@@ -176,9 +181,10 @@ returns-8 : tie.Need-returns-8
 returns-8 c =
     let e7 = c .before .before .before .before .before .before .before .before .before .before in
     let e6 = e7 .before .before in
-    let e5 = e6 .before in
+    let i = e6 .before in
+    let e5 = i .before in
     let s = e5 .before in
-    request-done (asks (s .before .before .before)) (s .scan .ensures) (e5 .if5 .left) (e6 .if6 .left) (e7 .if7 .left)
+    request-done (asks (s .before .before .before)) (s .scan .ensures) (e5 .if5 .left) (i .is-full .ensures) (e6 .if6 .left) (e7 .if7 .left)
     _ (c .before .before .before .before .before .before .before .before .clear .ensures) _ (c .before .before .before .before .for-guard .ensures) _ (c .before .before .before .add .ensures) _ (c .issued .ensures)
 
 pub request-guard-spec : {M : Type 1} → statement M
@@ -206,6 +212,7 @@ request-guard-spec =
     refuse-requires-5
     same-length-2
     returns-5
+    is-full-requires
     refuse-requires-6
     same-length-3
     returns-6

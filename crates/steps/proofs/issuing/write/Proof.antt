@@ -10,14 +10,14 @@ use Rattle.steps.proofs.issuing.write.Statement.{statement}
 use Rattle.steps.proofs.issuing.write.Tie as tie
 
 -- what is known where the requests have been looked at
-abbrev start : tie.After-scan → tie.Start
-start c = c .before .before .before .before .before .before .before .before .before .before
+abbrev start : tie.After-is-full → tie.Start
+start c = c .before .before .before .before .before .before .before .before .before .before .before
 
 -- the cell that is cleared, and the table after it, which is as long
 cell : (c : tie.After-cache-arg) → Cell (start (c .before .before .before .before) .args .player) (start (c .before .before .before .before) .args .entry)
 cell c =
     let x = start (c .before .before .before .before) in
-    cell-of (x .args .player) (x .args .entry) (is-player _ (c .before .before .before .before .before .before .before .before .before .before .before .before .if1 .left)) (x .fits .entry .fits)
+    cell-of (x .args .player) (x .args .entry) (is-player _ (c .before .before .before .before .before .before .before .before .before .before .before .before .before .if1 .left)) (x .fits .entry .fits)
 
 whole : (c : tie.After-cache) → length (c .cache .last .0) ≡ players-words
 whole c = c .cache .kept .0 ∙ start (c .before .before .before .before .before) .pre
@@ -86,6 +86,9 @@ part-scan-end c = has-requests (c .before .before .before .before .before .befor
 scan-requires : tie.Need-scan-requires
 scan-requires c κs = tt
 
+is-full-requires : tie.Need-is-full-requires
+is-full-requires c κs = tt
+
 refuse-requires-4 : tie.Need-refuse-requires-4
 refuse-requires-4 c κs = tt
 
@@ -94,14 +97,15 @@ same-length-2 c = refl
 
 returns-4 : tie.Need-returns-4
 returns-4 c =
-    let s = c .before .before in
+    let i = c .before .before in
+    let s = i .before in
     let e3 = s .before .before .before in
     let g = e3 .before in
     let e2 = g .before .before in
     let e1 = e2 .before .before in
     let x = e1 .before .before in
     let a = x .args in
-    write-full (a .players .now) (x .pre) (a .player) (a .entry) (a .value) (is-player _ (e1 .if1 .left)) (x .fits .entry .fits) (e2 .if2 .left) _ (g .live-guard .ensures) (e3 .if3 .left) (s .scan .ensures) (c .before .if4 .taken) _ (c .refuse4 .ensures)
+    write-full (a .players .now) (x .pre) (a .player) (a .entry) (a .value) (is-player _ (e1 .if1 .left)) (x .fits .entry .fits) (e2 .if2 .left) _ (g .live-guard .ensures) (e3 .if3 .left) (s .scan .ensures) (i .is-full .ensures) (c .before .if4 .taken) _ (c .refuse4 .ensures)
 
 slice-read-last : tie.Need-slice-read-last
 slice-read-last c = has-last (start (c .before .before) .pre)
@@ -115,14 +119,15 @@ same-length-3 c = refl
 returns-5 : tie.Need-returns-5
 returns-5 c =
     let e4 = c .before .before .before in
-    let s = e4 .before in
+    let i = e4 .before in
+    let s = i .before in
     let e3 = s .before .before .before in
     let g = e3 .before in
     let e2 = g .before .before in
     let e1 = e2 .before .before in
     let x = e1 .before .before in
     let a = x .args in
-    write-spent (a .players .now) (x .pre) (a .player) (a .entry) (a .value) (is-player _ (e1 .if1 .left)) (x .fits .entry .fits) (e2 .if2 .left) _ (g .live-guard .ensures) (e3 .if3 .left) (s .scan .ensures) (e4 .if4 .left) (c .before .if5 .taken) _ (c .refuse5 .ensures)
+    write-spent (a .players .now) (x .pre) (a .player) (a .entry) (a .value) (is-player _ (e1 .if1 .left)) (x .fits .entry .fits) (e2 .if2 .left) _ (g .live-guard .ensures) (e3 .if3 .left) (s .scan .ensures) (i .is-full .ensures) (e4 .if4 .left) (c .before .if5 .taken) _ (c .refuse5 .ensures)
 
 mul-cache : tie.Need-mul-cache
 mul-cache c = cell c .row
@@ -160,14 +165,15 @@ returns-6 c =
     let h = k .before .before .before .before in
     let e5 = h .before .before in
     let e4 = e5 .before .before in
-    let s = e4 .before in
+    let i = e4 .before in
+    let s = i .before in
     let e3 = s .before .before .before in
     let g = e3 .before in
     let e2 = g .before .before in
     let e1 = e2 .before .before in
     let x = e1 .before .before in
     let a = x .args in
-    write-done (a .players .now) (x .pre) (a .player) (a .entry) (a .value) (is-player _ (e1 .if1 .left)) (x .fits .entry .fits) (e2 .if2 .left) _ (g .live-guard .ensures) (e3 .if3 .left) (s .scan .ensures) (e4 .if4 .left) (e5 .if5 .left)
+    write-done (a .players .now) (x .pre) (a .player) (a .entry) (a .value) (is-player _ (e1 .if1 .left)) (x .fits .entry .fits) (e2 .if2 .left) _ (g .live-guard .ensures) (e3 .if3 .left) (s .scan .ensures) (i .is-full .ensures) (e4 .if4 .left) (e5 .if5 .left)
     _ (h .cache .ensures) _ _ (k .cross .ensures) _ (c .before .before .before .before .for-entry .ensures) _ (c .before .before .before .add .ensures) _ (c .issued .ensures)
 
 pub write-spec : {M : Type 1} → statement M
@@ -189,6 +195,7 @@ write-spec =
     part-scan-start
     part-scan-end
     scan-requires
+    is-full-requires
     refuse-requires-4
     same-length-2
     returns-4

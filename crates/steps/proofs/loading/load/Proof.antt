@@ -18,6 +18,9 @@ part-scan-end c = search needs
 scan-requires : tie.Need-scan-requires
 scan-requires c κs = search needs
 
+is-full-requires : tie.Need-is-full-requires
+is-full-requires c κs = search needs
+
 refuse-requires : tie.Need-refuse-requires
 refuse-requires c κs = search needs
 
@@ -26,10 +29,11 @@ same-length c = search needs
 
 returns : tie.Need-returns
 returns c =
-    let s = c .before .before in
+    let i = c .before .before in
+    let s = i .before in
     let x = s .before .before .before .before in
     let a = x .args in
-    load-full (a .players .now) (x .pre) (a .entry) (a .value) (s .scan .ensures) (c .before .if1 .taken) _ (c .refuse .ensures)
+    load-full (a .players .now) (x .pre) (a .entry) (a .value) (s .scan .ensures) (i .is-full .ensures) (c .before .if1 .taken) _ (c .refuse .ensures)
 
 slice-read-last : tie.Need-slice-read-last
 slice-read-last c = search needs
@@ -43,10 +47,11 @@ same-length-2 c = search needs
 returns-2 : tie.Need-returns-2
 returns-2 c =
     let e1 = c .before .before .before in
-    let s = e1 .before in
+    let i = e1 .before in
+    let s = i .before in
     let x = s .before .before .before .before in
     let a = x .args in
-    load-spent (a .players .now) (x .pre) (a .entry) (a .value) (s .scan .ensures) (e1 .if1 .left) (omega (arith, c .before .if2 .taken)) _ (c .refuse2 .ensures)
+    load-spent (a .players .now) (x .pre) (a .entry) (a .value) (s .scan .ensures) (i .is-full .ensures) (e1 .if1 .left) (omega (arith, c .before .if2 .taken)) _ (c .refuse2 .ensures)
 
 add-for-entry : tie.Need-add-for-entry
 add-for-entry c = next-fits _ (c .before .if2 .left)
@@ -70,10 +75,11 @@ returns-3 : tie.Need-returns-3
 returns-3 c =
     let e2 = c .before .before .before .before .before .before in
     let e1 = e2 .before .before in
-    let s = e1 .before in
+    let i = e1 .before in
+    let s = i .before in
     let x = s .before .before .before .before in
     let a = x .args in
-    load-done (a .players .now) (x .pre) (a .entry) (a .value) (s .scan .ensures) (e1 .if1 .left) (omega (arith, e2 .if2 .left))
+    load-done (a .players .now) (x .pre) (a .entry) (a .value) (s .scan .ensures) (i .is-full .ensures) (e1 .if1 .left) (omega (arith, e2 .if2 .left))
     _ (c .before .before .before .before .for-entry .ensures) _ (c .before .before .before .add .ensures) _ (c .issued .ensures)
 
 pub load-spec : {M : Type 1} → statement M
@@ -84,6 +90,7 @@ load-spec =
     part-scan-start
     part-scan-end
     scan-requires
+    is-full-requires
     refuse-requires
     same-length
     returns
