@@ -61,6 +61,15 @@ module _ (w : List ℕ) (k : ℕ) where
   unfolding requestOf
   read-place _ _ _ _ _ _ _ e₁ e₂ e₃ e₄ e₇ e₈ e₉ = rw (e₁, e₂, e₃, e₄, e₇, e₈, e₉) (simp (getD-drop, add-zero))
 
+  -- one field
+  pub player-is : word 1 % 256 ≡ requestAt w k .player
+  unfolding requestOf
+  player-is = ap (λ (n : ℕ). n % 256) (sym (getD-drop (k * 12) w 1 0))
+
+  pub low-is : word 3 % 256 ≡ requestAt w k .low
+  unfolding requestOf
+  low-is = ap (λ (n : ℕ). n % 256) (sym (getD-drop (k * 12) w 3 0))
+
   -- ---- the words fit
 
   at : (i : ℕ) → getD (drop (k * 12) w) i 0 ≡ word i

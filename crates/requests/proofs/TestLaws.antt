@@ -1,14 +1,16 @@
 -- The tests of one request, a case for each way that their code returns.
 -- Assumes nothing.
 use mathlib.Core.Path.{_≡_}
-use mathlib.Core.Bool.{true, false, not}
+use mathlib.Core.Bool.{true, false, not, and-false}
 use Prim.Native.Nat.{ℕ, _≤_, _<_}
 use lib.Dec.{eqb, ltb}
 use borrow.Author.Tests.{eq-eqb, ne-eqb, lt-ltb, le-ltb}
 use Rattle.store.specs.declared.Range.{Range}
 use Rattle.requests.specs.declared.Request.{Request}
 use Rattle.requests.specs.Model.{requesting, writing, using-entry}
-use Rattle.requests.specs.Calls.{remains}
+use Rattle.requests.specs.declared.Look.{Look}
+use Rattle.requests.specs.declared.Look.the-variants.{Requesting, Writing, Using}
+use Rattle.requests.specs.Calls.{sought, concerned, remains}
 
 module _ (p : ℕ) (r : Request) where
   module _ (g : Range) where
@@ -51,3 +53,9 @@ module _ (p : ℕ) (r : Request) where
 
   pub remains-last : r .player ≡ p → r .abandoned ≡ false → not (r .delivered) ≡ remains p r
   remains-last h₁ h₂ = simp (eq-eqb _ _ h₁, h₂)
+
+-- a request that is not concerned is not looked for
+pub not-concerned : (r : Request) (x : Look) → concerned x r ≡ false → false ≡ sought x r
+not-concerned r (Requesting p g) h = simp (h, and-false)
+not-concerned r (Writing p e) h = simp (h, and-false)
+not-concerned r (Using p e) h = simp (h, and-false)

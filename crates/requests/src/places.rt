@@ -1,4 +1,5 @@
 // One place of the region: 12 words, which hold a request.
+use crate::Look;
 use crate::Request;
 use crate::layout;
 use crate::tests;
@@ -11,7 +12,7 @@ ghost use lib.Dec.{ltb, eqb};
 ghost use lib.ListN.{length, getD, take, drop, set, replicate};
 ghost use Rattle.requests.specs.Model.{by, using-entry};
 ghost use Rattle.requests.specs.Region.{requestAt, bit, wordsOf, region-words};
-ghost use Rattle.requests.specs.Calls.{over, closed, carried, carry};
+ghost use Rattle.requests.specs.Calls.{sought, concerned, over, closed, carried, carry};
 
 // A word cut to 8 bits.
 fn byte(x: u32) -> u8
@@ -54,6 +55,45 @@ pub(crate) fn request_at(region: &[u32], k: usize) -> Request
         first: region[b + layout::FIRST],
         second: region[b + layout::SECOND],
     }
+}
+
+// Whose request place `k` holds.
+pub(crate) fn player_at(region: &[u32], k: usize) -> u8
+    requires { ⌜ (k < 64) × (length (now region) ≡ region-words) ⌝ }
+    ensures { λ r. ⌜ r ≡ requestAt (now (region .entry)) k .player ⌝ }
+{
+    byte(region[k * layout::SIZE + layout::PLAYER])
+}
+
+// The entry of the request of place `k`, or its first entry.
+fn low_at(region: &[u32], k: usize) -> u8
+    requires { ⌜ (k < 64) × (length (now region) ≡ region-words) ⌝ }
+    ensures { λ r. ⌜ r ≡ requestAt (now (region .entry)) k .low ⌝ }
+{
+    byte(region[k * layout::SIZE + layout::LOW])
+}
+
+// Whether the request of place `k` may be looked for: a test of one word, which most requests do not pass.
+fn concerns(region: &[u32], k: usize, look: Look) -> bool
+    requires { ⌜ (k < 64) × (length (now region) ≡ region-words) ⌝ }
+    ensures { λ r. ⌜ r ≡ concerned look (requestAt (now (region .entry)) k) ⌝ }
+{
+    match look {
+        Look::Requesting { player, range } => player_at(region, k) == player,
+        Look::Writing { player, entry } => low_at(region, k) == entry,
+        Look::Using { player, entry } => low_at(region, k) == entry,
+    }
+}
+
+// Whether the request of place `k` is looked for.
+pub(crate) fn is_sought(region: &[u32], k: usize, look: Look) -> bool
+    requires { ⌜ (k < 64) × (length (now region) ≡ region-words) ⌝ }
+    ensures { λ r. ⌜ r ≡ sought look (requestAt (now (region .entry)) k) ⌝ }
+{
+    if !concerns(region, k, look) {
+        return false;
+    }
+    tests::is_sought(request_at(region, k), look)
 }
 
 // Whether there is a place `k`, and it is used.

@@ -66,9 +66,8 @@ pub fn scan(region: &[u32], look: Look) -> Scan
     let mut counts: u64 = 0;
     let mut k = 0;
     while places::is_used(region, k) {
-        let r = places::request_at(region, k);
-        hit = tests::either(hit, tests::is_sought(r, look));
-        counts += shares::unit(r.player);
+        hit = tests::either(hit, places::is_sought(region, k, look));
+        counts += shares::unit(places::player_at(region, k));
         k += 1;
     }
     Scan {

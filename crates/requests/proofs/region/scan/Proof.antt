@@ -1,10 +1,12 @@
 -- `requests::region::scan` meets its contract. The loop's invariant: what the pass will tell is what it is to tell.
 -- Assumes nothing.
-use mathlib.Core.Path.{_≡_, sym, ap, _∙_}
+use mathlib.Core.Path.{_≡_, refl, sym, ap, _∙_}
 use mathlib.Core.Bool.{Bool, _||_}
 use Prim.Native.Nat.{_≤_, _-_}
 use native.Mathlib.Omega.{arith}
 use Rattle.requests.specs.declared.Scan.{Scan}
+use Rattle.requests.specs.Shares.{unit}
+use Rattle.requests.specs.Region.{requestAt}
 use Rattle.requests.specs.Calls.{scanned}
 use Rattle.requests.proofs.ScanLaws.{is-used, from-none, counted-fits, scan-at, scan-none, scan-start, scan-end, scan-on}
 use Rattle.requests.proofs.region.scan.Statement.{statement}
@@ -29,37 +31,44 @@ loop-holds c =
 is-used-requires : tie.Need-is-used-requires Inv-loop μ-loop
 is-used-requires c κs = c .before .if1 .left
 
-request-at-requires : tie.Need-request-at-requires Inv-loop μ-loop
-request-at-requires c κs =
+is-sought-requires : tie.Need-is-sought-requires Inv-loop μ-loop
+is-sought-requires c κs =
     let u = c .before in
     (is-used (u .before .before .before .before .args .region .now) (u .before .loop .k) (sym (u .is-used .ensures) ∙ c .if2 .taken) .0, u .before .before .if1 .left)
 
-is-sought-requires : tie.Need-is-sought-requires Inv-loop μ-loop
-is-sought-requires c κs = tt
-
 either-requires : tie.Need-either-requires Inv-loop μ-loop
 either-requires c κs = tt
+
+player-at-requires : tie.Need-player-at-requires Inv-loop μ-loop
+player-at-requires c κs =
+    let t = c .before .before in
+    let u = t .before in
+    (is-used (u .before .before .before .before .args .region .now) (u .before .loop .k) (sym (u .is-used .ensures) ∙ t .if2 .taken) .0, u .before .before .if1 .left)
 
 unit-requires : tie.Need-unit-requires Inv-loop μ-loop
 unit-requires c κs = tt
 
 add-counts : tie.Need-add-counts Inv-loop μ-loop
 add-counts c =
-    let r = c .before .before .before in
-    let t = r .before in
+    let q = c .before in
+    let e = q .before in
+    let t = e .before .before in
     let u = t .before in
     let l = u .before .loop in
     let a = u .before .before .before .before .args in
     let h = is-used (a .region .now) (l .k) (sym (u .is-used .ensures) ∙ t .if2 .taken) in
-    omega (arith, counted-fits (a .region .now) (l .k) (l .counts) (h .0) (h .1) _ (r .request-at .ensures) _ (c .unit .ensures) (ap (λ (x : Scan). x .counts) (l .inv .1)))
+    let r = requestAt (a .region .now) (l .k) in
+    let v = c .unit .ensures ∙ ap unit (q .player-at .ensures) in
+    omega (arith, counted-fits (a .region .now) (l .k) (l .counts) (h .0) (h .1) r refl _ v (ap (λ (x : Scan). x .counts) (l .inv .1)))
 
 add-k : tie.Need-add-k Inv-loop μ-loop
 add-k c = omega arith
 
 loop-less : tie.Need-loop-less Inv-loop μ-loop
 loop-less c =
-    let r = c .before .before .before in
-    let t = r .before in
+    let q = c .before in
+    let e = q .before in
+    let t = e .before .before in
     let u = t .before in
     let l = u .before .loop in
     let a = u .before .before .before .before .args in
@@ -68,16 +77,17 @@ loop-less c =
 
 loop-again : tie.Need-loop-again Inv-loop μ-loop
 loop-again c =
-    let r = c .before .before .before in
-    let t = r .before in
+    let q = c .before in
+    let e = q .before in
+    let t = e .before .before in
     let u = t .before in
     let l = u .before .loop in
     let a = u .before .before .before .before .args in
     let h = is-used (a .region .now) (l .k) (sym (u .is-used .ensures) ∙ t .if2 .taken) in
-    let e = c .before in (
-      omega (arith, h .0),
-      sym (scan-on (a .look) (a .region .now) (l .k) (l .hit) (l .counts) (h .0) (h .1) _ (r .request-at .ensures) _ (e .either .ensures ∙ ap (λ (b : Bool). l .hit || b) (e .before .is-sought .ensures)) _ (c .unit .ensures)) ∙ l .inv .1,
-    )
+    let r = requestAt (a .region .now) (l .k) in
+    let v = c .unit .ensures ∙ ap unit (q .player-at .ensures) in
+    (omega (arith, h .0),
+    sym (scan-on (a .look) (a .region .now) (l .k) (l .hit) (l .counts) (h .0) (h .1) r refl _ (e .either .ensures ∙ ap (λ (b : Bool). l .hit || b) (e .before .is-sought .ensures)) _ v) ∙ l .inv .1)
 
 returns-2 : tie.Need-returns-2 Inv-loop μ-loop
 returns-2 c =
@@ -95,9 +105,9 @@ scan-spec =
     returns
     loop-holds
     is-used-requires
-    request-at-requires
     is-sought-requires
     either-requires
+    player-at-requires
     unit-requires
     add-counts
     add-k
