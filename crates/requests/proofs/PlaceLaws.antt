@@ -66,9 +66,21 @@ module _ (w : List ℕ) (k : ℕ) where
   unfolding requestOf
   player-is = ap (λ (n : ℕ). n % 256) (sym (getD-drop (k * 12) w 1 0))
 
+  pub kind-is : word 2 % 256 ≡ requestAt w k .kind
+  unfolding requestOf
+  kind-is = ap (λ (n : ℕ). n % 256) (sym (getD-drop (k * 12) w 2 0))
+
   pub low-is : word 3 % 256 ≡ requestAt w k .low
   unfolding requestOf
   low-is = ap (λ (n : ℕ). n % 256) (sym (getD-drop (k * 12) w 3 0))
+
+  pub high-is : word 4 % 65536 ≡ requestAt w k .high
+  unfolding requestOf
+  high-is = ap (λ (n : ℕ). n % 65536) (sym (getD-drop (k * 12) w 4 0))
+
+  pub abandoned-is : eqb (word 9) 1 ≡ requestAt w k .abandoned
+  unfolding requestOf
+  abandoned-is = ap (λ (n : ℕ). eqb n 1) (sym (getD-drop (k * 12) w 9 0))
 
   -- ---- the words fit
 

@@ -55,12 +55,6 @@ sought (Requesting p g) r = requesting p g r
 sought (Writing p e) r = writing p e r
 sought (Using p e) r = using-entry p e r
 
--- what shows of most requests that they are not looked for: whose they are, or their entry
-abbrev pub concerned : Look → Request → Bool
-concerned (Requesting p g) r = by p r
-concerned (Writing p e) r = eqb (r .low) e
-concerned (Using p e) r = eqb (r .low) e
-
 -- what a pass tells: how many requests there are, whether one is looked for, and the counts of all by player
 abbrev pub scan-of : Look → List Request → Scan
 scan-of x rs = record { used = length rs; hit = any (sought x) rs; counts = counted rs }

@@ -1,6 +1,7 @@
 // The requests in flight between the players and the store: 64 places of 12 words, as specs/Region.antt lays them out.
 use store::Range;
 
+mod fields;
 pub mod kinds;
 pub mod layout;
 pub mod lent;

@@ -4,6 +4,7 @@ use crate::Found;
 use crate::Look;
 use crate::Request;
 use crate::Scan;
+use crate::fields;
 use crate::layout;
 use crate::places;
 use crate::rules;
@@ -66,8 +67,8 @@ pub fn scan(region: &[u32], look: Look) -> Scan
     let mut counts: u64 = 0;
     let mut k = 0;
     while places::is_used(region, k) {
-        hit = tests::either(hit, places::is_sought(region, k, look));
-        counts += shares::unit(places::player_at(region, k));
+        hit = tests::either(hit, tests::is_sought(region, k, look));
+        counts += shares::unit(fields::player(region, k));
         k += 1;
     }
     Scan {
@@ -145,9 +146,8 @@ pub fn cross(region: &mut [u32], player: u8, entry: u8) -> bool
     let mut hit = false;
     let mut k = 0;
     while places::is_used(region, k) {
-        let r = places::request_at(region, k);
-        hit = tests::either(hit, tests::is_writing(r, player, entry));
-        places::overlap(region, k, r, player, entry);
+        hit = tests::either(hit, tests::is_writing(region, k, player, entry));
+        places::overlap(region, k, player, entry);
         k += 1;
     }
     hit

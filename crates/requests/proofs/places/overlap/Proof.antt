@@ -10,6 +10,9 @@ use Rattle.requests.proofs.places.overlap.Tie as tie
 is-using-requires : tie.Need-is-using-requires
 is-using-requires c κs = search needs
 
+same-length : tie.Need-same-length
+same-length c = search needs
+
 returns : tie.Need-returns
 returns c = passed-over _ _ _ (sym (c .before .is-using .ensures) ∙ not-true _ (c .if1 .taken))
 
@@ -25,8 +28,8 @@ mul-region-2 c = search needs
 slice-write-region : tie.Need-slice-write-region
 slice-write-region c = search needs
 
-same-length : tie.Need-same-length
-same-length c = search needs
+same-length-2 : tie.Need-same-length-2
+same-length-2 c = search needs
 
 returns-2 : tie.Need-returns-2
 returns-2 c = chosen _ _ _ (sym (c .before .is-using .ensures) ∙ not-false _ (c .if1 .left))
@@ -36,10 +39,11 @@ overlap-spec =
     tie.close
     (tie.spec
     is-using-requires
+    same-length
     returns
     mul-region
     add-region
     mul-region-2
     slice-write-region
-    same-length
+    same-length-2
     returns-2)

@@ -6,7 +6,7 @@ use Prim.Native.Nat.{_+_, _≤_, _-_}
 use native.Mathlib.Omega.{arith}
 use lib.ListN.{length}
 use Rattle.requests.specs.Model.{writing, using-entry, any}
-use Rattle.requests.specs.Region.{requestsOf}
+use Rattle.requests.specs.Region.{requestAt, requestsOf}
 use Rattle.requests.specs.Calls.{overlapped-from}
 use Rattle.requests.proofs.ScanLaws.{is-used, from-none}
 use Rattle.requests.proofs.CrossLaws.{words-at, words-none, after-place, words-on, told-at, told-start, told-end, told-on, cross-none, cross-done}
@@ -36,21 +36,18 @@ loop-holds c =
 is-used-requires : tie.Need-is-used-requires Inv-loop μ-loop
 is-used-requires c κs = c .before .loop .inv .1
 
-request-at-requires : tie.Need-request-at-requires Inv-loop μ-loop
-request-at-requires c κs =
+is-writing-requires : tie.Need-is-writing-requires Inv-loop μ-loop
+is-writing-requires c κs =
     let u = c .before .before in
     let l = u .before .before .loop in
     (is-used (l .region) (l .k) (sym (u .is-used .ensures) ∙ c .before .if2 .taken) .0, l .inv .1)
-
-is-writing-requires : tie.Need-is-writing-requires Inv-loop μ-loop
-is-writing-requires c κs = tt
 
 either-requires : tie.Need-either-requires Inv-loop μ-loop
 either-requires c κs = tt
 
 overlap-requires : tie.Need-overlap-requires Inv-loop μ-loop
 overlap-requires c κs =
-    let t = c .before .before .before .before .before in
+    let t = c .before .before .before .before in
     let u = t .before in
     let l = u .before .before .loop in
     (is-used (l .region) (l .k) (sym (u .is-used .ensures) ∙ t .if2 .taken) .0, l .inv .1)
@@ -60,7 +57,7 @@ add-k c = omega arith
 
 loop-less : tie.Need-loop-less Inv-loop μ-loop
 loop-less c =
-    let t = c .before .before .before .before .before .before .before .before in
+    let t = c .before .before .before .before .before .before .before in
     let u = t .before in
     let l = u .before .before .loop in
     let h = is-used (l .region) (l .k) (sym (u .is-used .ensures) ∙ t .if2 .taken) .0 in
@@ -71,19 +68,18 @@ loop-again c =
     let o = c .before .before in
     let e = o .before .before in
     let w = e .before in
-    let q = w .before in
-    let t = q .before .before in
+    let t = w .before .before in
     let u = t .before in
     let l = u .before .before .loop in
     let a = u .before .before .before .before .before .args in
     let h = is-used (l .region) (l .k) (sym (u .is-used .ensures) ∙ t .if2 .taken) in
     let f = writing (a .player) (a .entry) in
     let g = using-entry (a .player) (a .entry) in
-    let y = ap g (sym (q .request-at .ensures)) in (
-      omega arith,
+    let r = requestAt (l .region) (l .k) in (
+      omega (arith, h .0),
       o .overlap .kept .0 ∙ l .inv .1,
-      sym (told-on f (l .region) (l .k) (l .hit) (h .0) (h .1) _ (q .request-at .ensures) _ (e .either .ensures ∙ ap (λ (b : Bool). l .hit || b) (w .is-writing .ensures)) _ (after-place g (l .region) (l .k) (h .0) _ _ y (o .overlap .ensures))) ∙ l .inv .2,
-      sym (words-on g (l .region) (l .k) (h .0) _ _ y (o .overlap .ensures) (h .1)) ∙ l .inv .3,
+      sym (told-on f (l .region) (l .k) (l .hit) (h .0) (h .1) r refl _ (e .either .ensures ∙ ap (λ (b : Bool). l .hit || b) (w .is-writing .ensures)) _ (after-place g (l .region) (l .k) (h .0) _ _ refl (o .overlap .ensures))) ∙ l .inv .2,
+      sym (words-on g (l .region) (l .k) (h .0) _ _ refl (o .overlap .ensures) (h .1)) ∙ l .inv .3,
     )
 
 same-length : tie.Need-same-length Inv-loop μ-loop
@@ -111,7 +107,6 @@ cross-spec =
     returns
     loop-holds
     is-used-requires
-    request-at-requires
     is-writing-requires
     either-requires
     overlap-requires

@@ -39,8 +39,8 @@ is-sought-requires c κs =
 either-requires : tie.Need-either-requires Inv-loop μ-loop
 either-requires c κs = tt
 
-player-at-requires : tie.Need-player-at-requires Inv-loop μ-loop
-player-at-requires c κs =
+player-requires : tie.Need-player-requires Inv-loop μ-loop
+player-requires c κs =
     let t = c .before .before in
     let u = t .before in
     (is-used (u .before .before .before .before .args .region .now) (u .before .loop .k) (sym (u .is-used .ensures) ∙ t .if2 .taken) .0, u .before .before .if1 .left)
@@ -58,7 +58,7 @@ add-counts c =
     let a = u .before .before .before .before .args in
     let h = is-used (a .region .now) (l .k) (sym (u .is-used .ensures) ∙ t .if2 .taken) in
     let r = requestAt (a .region .now) (l .k) in
-    let v = c .unit .ensures ∙ ap unit (q .player-at .ensures) in
+    let v = c .unit .ensures ∙ ap unit (q .player .ensures) in
     omega (arith, counted-fits (a .region .now) (l .k) (l .counts) (h .0) (h .1) r refl _ v (ap (λ (x : Scan). x .counts) (l .inv .1)))
 
 add-k : tie.Need-add-k Inv-loop μ-loop
@@ -85,9 +85,10 @@ loop-again c =
     let a = u .before .before .before .before .args in
     let h = is-used (a .region .now) (l .k) (sym (u .is-used .ensures) ∙ t .if2 .taken) in
     let r = requestAt (a .region .now) (l .k) in
-    let v = c .unit .ensures ∙ ap unit (q .player-at .ensures) in
-    (omega (arith, h .0),
-    sym (scan-on (a .look) (a .region .now) (l .k) (l .hit) (l .counts) (h .0) (h .1) r refl _ (e .either .ensures ∙ ap (λ (b : Bool). l .hit || b) (e .before .is-sought .ensures)) _ v) ∙ l .inv .1)
+    let v = c .unit .ensures ∙ ap unit (q .player .ensures) in (
+      omega (arith, h .0),
+      sym (scan-on (a .look) (a .region .now) (l .k) (l .hit) (l .counts) (h .0) (h .1) r refl _ (e .either .ensures ∙ ap (λ (b : Bool). l .hit || b) (e .before .is-sought .ensures)) _ v) ∙ l .inv .1,
+    )
 
 returns-2 : tie.Need-returns-2 Inv-loop μ-loop
 returns-2 c =
@@ -107,7 +108,7 @@ scan-spec =
     is-used-requires
     is-sought-requires
     either-requires
-    player-at-requires
+    player-requires
     unit-requires
     add-counts
     add-k

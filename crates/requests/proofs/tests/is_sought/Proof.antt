@@ -1,9 +1,10 @@
 -- `requests::tests::is_sought` meets its contract: a case for each thing that is looked for.
 -- Assumes nothing.
 use mathlib.Core.Path.{sym, ap, _∙_}
-use Rattle.requests.specs.declared.Look.{Look}
-use Rattle.requests.specs.Calls.{sought}
 use borrow.Author.Needs.{needs}
+use Rattle.requests.specs.declared.Look.{Look}
+use Rattle.requests.specs.Region.{requestAt}
+use Rattle.requests.specs.Calls.{sought}
 use Rattle.requests.proofs.tests.is_sought.Statement.{statement}
 use Rattle.requests.proofs.tests.is_sought.Tie as tie
 
@@ -28,17 +29,20 @@ is-using-requires c κs = search needs
 returns : tie.Need-returns
 returns c =
     let b = c .before .before in
-    c .is-requesting .ensures ∙ ap (λ (x : Look). sought x (b .before .before .args .r)) (sym (b .look .given .1))
+    let a = b .before .before .before .args in
+    c .is-requesting .ensures ∙ ap (λ (x : Look). sought x (requestAt (a .region .now) (a .k))) (sym (b .look .given .1))
 
 returns-2 : tie.Need-returns-2
 returns-2 c =
     let b = c .before .before in
-    c .is-writing .ensures ∙ ap (λ (x : Look). sought x (b .before .before .args .r)) (sym (b .look2 .given .1))
+    let a = b .before .before .before .args in
+    c .is-writing .ensures ∙ ap (λ (x : Look). sought x (requestAt (a .region .now) (a .k))) (sym (b .look2 .given .1))
 
 returns-3 : tie.Need-returns-3
 returns-3 c =
     let b = c .before .before in
-    c .is-using .ensures ∙ ap (λ (x : Look). sought x (b .before .before .args .r)) (sym (b .look3 .given .1))
+    let a = b .before .before .before .args in
+    c .is-using .ensures ∙ ap (λ (x : Look). sought x (requestAt (a .region .now) (a .k))) (sym (b .look3 .given .1))
 
 pub is-sought-spec : {M : Type 1} → statement M
 is-sought-spec =

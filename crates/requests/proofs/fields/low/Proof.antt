@@ -1,10 +1,10 @@
--- `requests::places::player_at` meets its contract.
+-- `requests::fields::low` meets its contract.
 -- Assumes nothing.
 use mathlib.Core.Path.{_∙_}
 use borrow.Author.Needs.{needs}
-use Rattle.requests.proofs.PlaceLaws.{player-is}
-use Rattle.requests.proofs.places.player_at.Statement.{statement}
-use Rattle.requests.proofs.places.player_at.Tie as tie
+use Rattle.requests.proofs.PlaceLaws.{low-is}
+use Rattle.requests.proofs.fields.low.Statement.{statement}
+use Rattle.requests.proofs.fields.low.Tie as tie
 
 mul-byte : tie.Need-mul-byte
 mul-byte c = search needs
@@ -24,8 +24,8 @@ byte-requires c κs = search needs
 returns : tie.Need-returns
 returns c =
     let a = c .before .before .before .args in
-    c .byte .ensures ∙ player-is (a .region .now) (a .k)
+    c .byte .ensures ∙ low-is (a .region .now) (a .k)
 
-pub player-at-spec : {M : Type 1} → statement M
-player-at-spec =
+pub low-spec : {M : Type 1} → statement M
+low-spec =
     tie.close (tie.spec mul-byte add-byte mul-byte-2 shared-slice-read-byte byte-requires returns)
