@@ -13,7 +13,6 @@ use lib.Seq.{take-append-add, drop-append-add, drop-at, getD-append-add}
 use borrow.Author.Tests.{eq-eqb, ne-eqb, eqb-true, lt-ltb, leb-true, leb-false}
 use Rattle.requests.specs.declared.Request.{Request}
 use Rattle.requests.specs.declared.Fit.{Fit}
-use Rattle.requests.specs.declared.Look.{Look}
 use Rattle.requests.specs.declared.Found.the-variants.{At, Nowhere}
 use Rattle.requests.specs.Model.{places, serial-is, by, fits, named, writing, using-entry, any, keep, find, drop-request, change-request, mark-overlapped, mark-abandoned, mark-delivered}
 use Rattle.requests.specs.Region.{wordsOf, placed, regionOf}
@@ -239,8 +238,8 @@ unfolding with-request
 append-region rs r h = rw (is-whole rs) (append-placed places rs r h)
 
 module _ (n : ℕ) (rs : List Request) (few : length rs ≤ places) (q : Requests n 0 rs) where
-  pub scanned-region : (x : Look) → scanned x (regionOf rs) ≡ scan-of x rs
-  scanned-region x = rw (requests-region n rs few q)
+  pub scanned-region : (f : Request → Bool) → scanned f (regionOf rs) ≡ scan-of f rs
+  scanned-region f = rw (requests-region n rs few q)
 
   -- nothing is found
   pub nowhere-region : {A : Type 0} (f : Fit) (i : ℕ) (x : A) (go : Request → A) → Nowhere ≡ found f i (regionOf rs) → find (named f i) rs x go ≡ x

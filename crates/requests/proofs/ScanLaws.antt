@@ -15,13 +15,12 @@ use Rattle.requests.specs.declared.Request.{Request}
 use Rattle.requests.specs.declared.Fit.{Fit}
 use Rattle.requests.specs.declared.Found.{Found}
 use Rattle.requests.specs.declared.Found.the-variants.{At, Nowhere}
-use Rattle.requests.specs.declared.Look.{Look}
 use Rattle.requests.specs.declared.Scan.{Scan}
 use Rattle.requests.specs.Model.{serial-is, fits, any, find}
 use Rattle.requests.specs.Shares.{unit, counted}
 use Rattle.requests.specs.Region.{requestAt, requestsFrom, requestsOf, wordsOf}
 use Rattle.requests.specs.Answers.{gives, refused, no-such-request}
-use Rattle.requests.specs.Calls.{found-from, found, numbers, ahead, Finds, sought, scanned}
+use Rattle.requests.specs.Calls.{found-from, found, numbers, ahead, Finds, scanned}
 use Rattle.requests.proofs.Basics.{decide, both-left, both-right}
 use Rattle.requests.proofs.CountLaws.{counted-most}
 use Rattle.requests.proofs.Placed.{serial-of, requests-few}
@@ -158,23 +157,23 @@ found-as f x e = e ∙ x .answer
 
 -- ---- a pass that tells
 
-module _ (x : Look) (w : List ℕ) where
+module _ (f : Request → Bool) (w : List ℕ) where
   -- what the pass will tell, once place k is reached with this result of the test and these counts
   abbrev pub scan-at : ℕ → Bool → ℕ → Scan
-  scan-at k hit n = record { used = k + length (from w k); hit = hit || any (sought x) (from w k); counts = n + counted (from w k) }
+  scan-at k hit n = record { used = k + length (from w k); hit = hit || any f (from w k); counts = n + counted (from w k) }
 
-  pub scan-none : (length w ≡ 768 → ⊥) → record { used = 0; hit = false; counts = 0 } ≡ scanned x w
+  pub scan-none : (length w ≡ 768 → ⊥) → record { used = 0; hit = false; counts = 0 } ≡ scanned f w
   unfolding counted
   scan-none h = rw (no-requests w h)
 
-  pub scan-start : length w ≡ 768 → scan-at 0 false 0 ≡ scanned x w
+  pub scan-start : length w ≡ 768 → scan-at 0 false 0 ≡ scanned f w
   scan-start h = rw (from-start w h, zero-add, zero-add)
 
   module _ (k : ℕ) (hit : Bool) (n : ℕ) where
     pub scan-end : from w k ≡ [] → record { used = k; hit = hit; counts = n } ≡ scan-at k hit n
     scan-end e = rw (← counted-end w k n e, e, add-zero, or-false)
 
-    pub scan-on : (h : k < 64) (z : getD w (k * 12) 0 ≡ 0 → ⊥) (r : Request) → r ≡ requestAt w k → (b : Bool) → b ≡ hit || sought x r → (u : ℕ) → u ≡ unit (r .player) → scan-at k hit n ≡ scan-at (k + 1) b (n + u)
+    pub scan-on : (h : k < 64) (z : getD w (k * 12) 0 ≡ 0 → ⊥) (r : Request) → r ≡ requestAt w k → (b : Bool) → b ≡ hit || f r → (u : ℕ) → u ≡ unit (r .player) → scan-at k hit n ≡ scan-at (k + 1) b (n + u)
     scan-on h z r er b eb u eu =
         let m : k + suc (length (from w (k + 1))) ≡ k + 1 + length (from w (k + 1)) = omega arith in
         rw (counted-on w k n h z r er u eu, from-used w k h z, eb, er, m, or-assoc)

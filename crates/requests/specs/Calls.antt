@@ -10,10 +10,8 @@ use Rattle.requests.specs.declared.Request.{Request}
 use Rattle.requests.specs.declared.Fit.{Fit}
 use Rattle.requests.specs.declared.Found.{Found}
 use Rattle.requests.specs.declared.Found.the-variants.{At, Nowhere}
-use Rattle.requests.specs.declared.Look.{Look}
-use Rattle.requests.specs.declared.Look.the-variants.{Requesting, Writing, Using}
 use Rattle.requests.specs.declared.Scan.{Scan}
-use Rattle.requests.specs.Model.{places, serial-is, by, pending, fits, requesting, writing, using-entry, any, find, mark-abandoned}
+use Rattle.requests.specs.Model.{places, serial-is, by, pending, fits, writing, using-entry, any, find, mark-abandoned}
 use Rattle.requests.specs.Shares.{counted}
 use Rattle.requests.specs.Region.{requestOf, whole, requestsOf, wordsOf}
 use Rattle.requests.specs.Answers.{Numbers, gives, refused, no-such-request}
@@ -48,19 +46,12 @@ pub record Finds (f : Fit) (n : ℕ) (w : List ℕ) (r : Found) : Type 0 where
   pub answer : r ≡ found f n w
   pub numbered : numbers r ≡ found-numbers f n w
 
--- what a pass looks for: in step 3 ‘a waiting guard request of this player’, which shares an entry; in step 4 a waiting write by this player on
--- this entry; in step 5 ‘this player's waiting reads and writes on the entry’
-abbrev pub sought : Look → Request → Bool
-sought (Requesting p g) r = requesting p g r
-sought (Writing p e) r = writing p e r
-sought (Using p e) r = using-entry p e r
+-- what a pass tells: how many requests there are, whether the test holds of one, and the counts of all by player
+abbrev pub scan-of : (Request → Bool) → List Request → Scan
+scan-of f rs = record { used = length rs; hit = any f rs; counts = counted rs }
 
--- what a pass tells: how many requests there are, whether one is looked for, and the counts of all by player
-abbrev pub scan-of : Look → List Request → Scan
-scan-of x rs = record { used = length rs; hit = any (sought x) rs; counts = counted rs }
-
-abbrev pub scanned : Look → List ℕ → Scan
-scanned x w = scan-of x (requestsOf w)
+abbrev pub scanned : (Request → Bool) → List ℕ → Scan
+scanned f w = scan-of f (requestsOf w)
 
 -- ---- one place changed
 

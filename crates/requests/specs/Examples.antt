@@ -11,8 +11,7 @@ use Rattle.store.specs.Table.{at-most}
 use Rattle.requests.specs.declared.Request.{Request}
 use Rattle.requests.specs.declared.LentRequest.{LentRequest}
 use Rattle.requests.specs.declared.Fit.the-variants.{Undelivered, Answerable, Pending, Abandoned}
-use Rattle.requests.specs.declared.Look.the-variants.{Writing, Using}
-use Rattle.requests.specs.Model.{loader, new-request, mark-abandoned, mark-delivered}
+use Rattle.requests.specs.Model.{loader, writing, using-entry, new-request, mark-abandoned, mark-delivered}
 use Rattle.requests.specs.Shares.{turned-away, counted as counted-requests, count-in}
 use Rattle.requests.specs.Region.{requestOf, requestsFrom, requestsOf, placed, regionOf, fields-hold, outcome-holds, request-holds, words-fit, places-hold, valid}
 use Rattle.requests.specs.Answers.{gives, refused}
@@ -67,7 +66,7 @@ twice-case = refl
 
 -- a read of entry 45 by player 3 is not looked for by a read, and is by a write there
 pub sought-case :
-    map (λ x. scanned x (regionOf (request (place 1 3 0 0 0) ∷ []))) (Writing 3 45 ∷ Using 3 45 ∷ Using 3 44 ∷ [])
+    map (λ f. scanned f (regionOf (request (place 1 3 0 0 0) ∷ []))) (writing 3 45 ∷ using-entry 3 45 ∷ using-entry 3 44 ∷ [])
     ≡ map (λ b. record { used = 1; hit = b; counts = 128 ^ 3 }) (false ∷ true ∷ false ∷ [])
 unfolding requestOf requestsFrom requestsOf placed counted-requests
 sought-case = refl
@@ -108,7 +107,7 @@ shares-case = refl
 
 -- the counts of a region, by player: the loader's are the ninth, and a number above it has none
 abbrev some-counts : ℕ
-some-counts = scanned (Writing 0 9) (regionOf (some 0 22 1 ++ some 1 5 23 ++ some 2 6 28 ++ some 9 1 34)) .counts
+some-counts = scanned (writing 0 9) (regionOf (some 0 22 1 ++ some 1 5 23 ++ some 2 6 28 ++ some 9 1 34)) .counts
 
 pub counts-case : map (count-in some-counts) (0 ∷ 1 ∷ 2 ∷ 3 ∷ 7 ∷ loader ∷ []) ≡ 22 ∷ 5 ∷ 6 ∷ 0 ∷ 0 ∷ 0 ∷ []
 unfolding requestOf requestsFrom requestsOf placed counted-requests

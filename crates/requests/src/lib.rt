@@ -1,6 +1,4 @@
 // The requests in flight between the players and the store: 64 places of 12 words, as specs/Region.antt lays them out.
-use store::Range;
-
 mod fields;
 pub mod kinds;
 pub mod layout;
@@ -66,16 +64,6 @@ pub enum Fit {
 pub enum Found {
     At { place: usize, request: Request },
     Nowhere,
-}
-
-// What a pass over the requests looks for.
-pub enum Look {
-    // step 3: a pending guard request of the player that shares an entry with the range
-    Requesting { player: u8, range: Range },
-    // step 4: a pending write of the player on the entry
-    Writing { player: u8, entry: u8 },
-    // step 5: a pending read or write of the player on the entry
-    Using { player: u8, entry: u8 },
 }
 
 // What a pass over the requests tells: how many there are, whether one is of those that are looked for, and how many each player has

@@ -1,7 +1,6 @@
 // The calls on a region. One that is not whole, of 768 words, has no requests and stays as it is.
 use crate::Fit;
 use crate::Found;
-use crate::Look;
 use crate::Request;
 use crate::Scan;
 use crate::fields;
@@ -10,8 +9,10 @@ use crate::places;
 use crate::rules;
 use crate::shares;
 use crate::tests;
+use store::Range;
 use store::words;
 ghost use mathlib.Core.Path.{_≡_};
+ghost use Rattle.requests.specs.Model.{requesting, writing, using-entry};
 ghost use Rattle.requests.specs.Region.{valid};
 ghost use Rattle.requests.specs.Calls.{Finds, scanned, with-request, with-abandoned, with-delivered, without, crossing, crossed, restarted};
 
@@ -52,9 +53,11 @@ pub fn find(region: &[u32], serial: u32, fit: Fit) -> Found
     Found::Nowhere
 }
 
-// How many requests there are, whether one is looked for, and how many each player has.
-pub fn scan(region: &[u32], look: Look) -> Scan
-    ensures { λ r. ⌜ r ≡ scanned look (now (region .entry)) ⌝ }
+// ---- passes over all requests: how many there are, whether one is looked for, and how many each player has
+
+// Step 3 looks for a pending guard request of the player that shares an entry with the range.
+pub fn scan_requesting(region: &[u32], player: u8, range: Range) -> Scan
+    ensures { λ r. ⌜ r ≡ scanned (requesting player range) (now (region .entry)) ⌝ }
 {
     if region.len() != layout::WORDS {
         return Scan {
@@ -67,7 +70,59 @@ pub fn scan(region: &[u32], look: Look) -> Scan
     let mut counts: u64 = 0;
     let mut k = 0;
     while places::is_used(region, k) {
-        hit = tests::either(hit, tests::is_sought(region, k, look));
+        hit = tests::either(hit, tests::is_requesting(region, k, player, range));
+        counts += shares::unit(fields::player(region, k));
+        k += 1;
+    }
+    Scan {
+        used: k,
+        hit,
+        counts,
+    }
+}
+
+// Step 4 looks for a pending write of the player on the entry.
+pub fn scan_writing(region: &[u32], player: u8, entry: u8) -> Scan
+    ensures { λ r. ⌜ r ≡ scanned (writing player entry) (now (region .entry)) ⌝ }
+{
+    if region.len() != layout::WORDS {
+        return Scan {
+            used: 0,
+            hit: false,
+            counts: 0,
+        };
+    }
+    let mut hit = false;
+    let mut counts: u64 = 0;
+    let mut k = 0;
+    while places::is_used(region, k) {
+        hit = tests::either(hit, tests::is_writing(region, k, player, entry));
+        counts += shares::unit(fields::player(region, k));
+        k += 1;
+    }
+    Scan {
+        used: k,
+        hit,
+        counts,
+    }
+}
+
+// Step 5 looks for a pending read or write of the player on the entry.
+pub fn scan_using(region: &[u32], player: u8, entry: u8) -> Scan
+    ensures { λ r. ⌜ r ≡ scanned (using-entry player entry) (now (region .entry)) ⌝ }
+{
+    if region.len() != layout::WORDS {
+        return Scan {
+            used: 0,
+            hit: false,
+            counts: 0,
+        };
+    }
+    let mut hit = false;
+    let mut counts: u64 = 0;
+    let mut k = 0;
+    while places::is_used(region, k) {
+        hit = tests::either(hit, tests::is_using(region, k, player, entry));
         counts += shares::unit(fields::player(region, k));
         k += 1;
     }

@@ -1,6 +1,5 @@
 // Tests of one request: by its place, of which most end at the first word that they read, or once it has been read.
 use crate::Fit;
-use crate::Look;
 use crate::Request;
 use crate::fields;
 use crate::kinds;
@@ -11,10 +10,10 @@ ghost use Prim.Native.Nat.{_<_};
 ghost use lib.ListN.{length};
 ghost use Rattle.requests.specs.Model.{fits, requesting, writing, using-entry};
 ghost use Rattle.requests.specs.Region.{requestAt, region-words};
-ghost use Rattle.requests.specs.Calls.{sought, remains};
+ghost use Rattle.requests.specs.Calls.{remains};
 
 // Whether place `k` holds a pending guard request of the player that shares an entry with the range.
-fn is_requesting(region: &[u32], k: usize, player: u8, range: Range) -> bool
+pub(crate) fn is_requesting(region: &[u32], k: usize, player: u8, range: Range) -> bool
     requires { ⌜ (k < 64) × (length (now region) ≡ region-words) ⌝ }
     ensures { λ b. ⌜ b ≡ requesting player range (requestAt (now (region .entry)) k) ⌝ }
 {
@@ -65,18 +64,6 @@ pub(crate) fn is_using(region: &[u32], k: usize, player: u8, entry: u8) -> bool
         return false;
     }
     !fields::abandoned(region, k)
-}
-
-// Whether place `k` holds a request that is looked for.
-pub(crate) fn is_sought(region: &[u32], k: usize, look: Look) -> bool
-    requires { ⌜ (k < 64) × (length (now region) ≡ region-words) ⌝ }
-    ensures { λ b. ⌜ b ≡ sought look (requestAt (now (region .entry)) k) ⌝ }
-{
-    match look {
-        Look::Requesting { player, range } => is_requesting(region, k, player, range),
-        Look::Writing { player, entry } => is_writing(region, k, player, entry),
-        Look::Using { player, entry } => is_using(region, k, player, entry),
-    }
 }
 
 // Whether a step that names it fits it.

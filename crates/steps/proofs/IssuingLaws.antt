@@ -18,7 +18,6 @@ use Rattle.store.specs.Model.{open-guard}
 use Rattle.store.specs.declared.Range.{Range}
 use Rattle.store.specs.declared.Reply.{Reply}
 use Rattle.requests.specs.declared.Request.{Request}
-use Rattle.requests.specs.declared.Look.the-variants.{Requesting, Writing, Using}
 use Rattle.requests.specs.declared.Scan.{Scan}
 use Rattle.requests.specs.Model.{places, loader, requesting, writing, using-entry, new-request, mark-overlapped, any}
 use Rattle.requests.specs.Shares.{turned-away, count-in}
@@ -91,13 +90,13 @@ module _ (t : List ℕ) (l : length t ≡ players-words) (p e : ℕ) where
         (λ s o y.
         rw (lt-leb 8 p hp, cached-is s y true b, ap (λ (u : List ℕ). getD u (4609 + (p * 256 + e)) 0) y ∙ version-word s p e hp he, ap (λ (u : List ℕ). getD u (6657 + (p * 256 + e)) 0) y ∙ value-word s p e hp he))
 
-    module _ (b : false ≡ hit t p e) {x : Scan} (ex : x ≡ scanned (Writing p e) (take 768 (drop 8705 t))) {full : Bool} (ef : full ≡ turned-away (count-in (x .counts)) p) where
+    module _ (b : false ≡ hit t p e) {x : Scan} (ex : x ≡ scanned (writing p e) (take 768 (drop 8705 t))) {full : Bool} (ef : full ≡ turned-away (count-in (x .counts)) p) where
       pub read-full : full ≡ true → (r : Reply) → r ≡ refusal 38 → Moves f t r t
-      read-full h r er = refused f t l 38 r er (λ s o y. rw (full-is o y (Writing p e) ex p ef true h, lt-leb 8 p hp, cached-is s y false b))
+      read-full h r er = refused f t l 38 r er (λ s o y. rw (full-is o y (writing p e) ex p ef true h, lt-leb 8 p hp, cached-is s y false b))
 
       module _ (h : full ≡ false) where
         pub read-spent : 4000000 ≤ getD t 0 0 → (r : Reply) → r ≡ refusal 34 → Moves f t r t
-        read-spent k r er = refused f t l 34 r er (λ s o y. rw (full-is o y (Writing p e) ex p ef false h, lt-leb 8 p hp, cached-is s y false b, spent-is o y k))
+        read-spent k r er = refused f t l 34 r er (λ s o y. rw (full-is o y (writing p e) ex p ef false h, lt-leb 8 p hp, cached-is s y false b, spent-is o y k))
 
         pub read-done : getD t 0 0 < 4000000 → (g : ℕ) → g ≡ live-guard t p e → (q : Request) → q ≡ new-request (getD t 0 0 + 1) p 4 e 0 0 g (x .hit) → (t′ : List ℕ) → t′ ≡ added (x .used) q t
             → (r : Reply) → r ≡ issued (getD t 0 0 + 1) → Moves f t r t′
@@ -105,13 +104,13 @@ module _ (t : List ℕ) (l : length t ≡ players-words) (p e : ℕ) where
             moves f t l r t′
             (λ s o y.
             let m = last-is o y in
-            let d : f s ≡ read-from-store s p e = rw (full-is o y (Writing p e) ex p ef false h, lt-leb 8 p hp, cached-is s y false b, left-is o y k) in
+            let d : f s ≡ read-from-store s p e = rw (full-is o y (writing p e) ex p ef false h, lt-leb 8 p hp, cached-is s y false b, left-is o y k) in
             let g-is : g ≡ cond (live s p e) (s .player p .held e) 0 = eg ∙ ap (λ (u : List ℕ). live-guard u p e) y ∙ live-state s p e hp he in
             let a = new-request (s .last + 1) p 4 e 0 0 (cond (live s p e) (s .player p .held e) 0) (any (writing p e) (s .requests)) in
-            let q-is : q ≡ a = eq ∙ rw (m, g-is, ← hit-is o y (Writing p e) ex (x .hit) refl) in
+            let q-is : q ≡ a = eq ∙ rw (m, g-is, ← hit-is o y (writing p e) ex (x .hit) refl) in
             rw d (
               er ∙ ap (λ (i : ℕ). issued (i + 1)) m,
-              et ∙ rw (y, q-is) (added-state s (x .used) a (used-is o y (Writing p e) ex) (room-is o y (Writing p e) ex p ef h (omega arith)) refl),
+              et ∙ rw (y, q-is) (added-state s (x .used) a (used-is o y (writing p e) ex) (room-is o y (writing p e) ex p ef h (omega arith)) refl),
             ))
 
 -- ---- 5 write
@@ -174,13 +173,13 @@ module _ (t : List ℕ) (l : length t ≡ players-words) (p e v : ℕ) where
         alive : (s : State) (y : t ≡ tableOf s) → (live s p e ≡ true) × (g ≡ s .player p .held e)
         alive s y = live-is s p e g (guard-is s y) nz
 
-        module _ {x : Scan} (ex : x ≡ scanned (Using p e) (take 768 (drop 8705 t))) {full : Bool} (ef : full ≡ turned-away (count-in (x .counts)) p) where
+        module _ {x : Scan} (ex : x ≡ scanned (using-entry p e) (take 768 (drop 8705 t))) {full : Bool} (ef : full ≡ turned-away (count-in (x .counts)) p) where
           pub write-full : full ≡ true → (r : Reply) → r ≡ refusal 38 → Moves w t r t
-          write-full h r er = refused w t l 38 r er (λ s o y. rw (full-is o y (Using p e) ex p ef true h, lt-leb 8 p hp, alive s y .0, owned s y))
+          write-full h r er = refused w t l 38 r er (λ s o y. rw (full-is o y (using-entry p e) ex p ef true h, lt-leb 8 p hp, alive s y .0, owned s y))
 
           module _ (h : full ≡ false) where
             pub write-spent : 4000000 ≤ getD t 0 0 → (r : Reply) → r ≡ refusal 34 → Moves w t r t
-            write-spent k r er = refused w t l 34 r er (λ s o y. rw (full-is o y (Using p e) ex p ef false h, lt-leb 8 p hp, alive s y .0, owned s y, spent-is o y k))
+            write-spent k r er = refused w t l 34 r er (λ s o y. rw (full-is o y (using-entry p e) ex p ef false h, lt-leb 8 p hp, alive s y .0, owned s y, spent-is o y k))
 
             pub write-done : getD t 0 0 < 4000000 → (t₁ : List ℕ) → t₁ ≡ caching (p * 256 + e) 0 0 0 t → (c : Bool) (t₂ : List ℕ) → crossing c t₂ ≡ crossed-table (x .hit) p e t₁
                 → (q : Request) → q ≡ new-request (getD t 0 0 + 1) p 5 e 0 v g c → (t′ : List ℕ) → t′ ≡ added (x .used) q t₂ → (r : Reply) → r ≡ issued (getD t 0 0 + 1) → Moves w t r t′
@@ -193,15 +192,15 @@ module _ (t : List ℕ) (l : length t ≡ players-words) (p e v : ℕ) where
                 let s₁ = with-cached s p e empty in
                 let s₂ = with-requests s₁ (map f rs) in
                 let y₁ : t₁ ≡ tableOf s₁ = e₁ ∙ ap (caching (p * 256 + e) 0 0 0) y ∙ cached-put s p hp e he empty in
-                let cr : crossing c t₂ ≡ crossing (any (writing p e) rs) (tableOf s₂) = e₂ ∙ ap (crossed-table (x .hit) p e) y₁ ∙ crossed-state s₁ (s .last) (few-requests o) (o .requests) p e (x .hit) (hit-is o y (Using p e) ex (x .hit) refl) in
-                let d : w s ≡ write s p e v = rw (full-is o y (Using p e) ex p ef false h, lt-leb 8 p hp, alive s y .0, owned s y, left-is o y k) in
+                let cr : crossing c t₂ ≡ crossing (any (writing p e) rs) (tableOf s₂) = e₂ ∙ ap (crossed-table (x .hit) p e) y₁ ∙ crossed-state s₁ (s .last) (few-requests o) (o .requests) p e (x .hit) (hit-is o y (using-entry p e) ex (x .hit) refl) in
+                let d : w s ≡ write s p e v = rw (full-is o y (using-entry p e) ex p ef false h, lt-leb 8 p hp, alive s y .0, owned s y, left-is o y k) in
                 let a = new-request (s .last + 1) p 5 e 0 v (s .player p .held e) (any (writing p e) rs) in
                 let q-is : q ≡ a = eq ∙ rw (m, alive s y .1, ap (λ (z : Crossing). z .hit) cr) in
                 let y₂ : t₂ ≡ tableOf s₂ = ap (λ (z : Crossing). z .words) cr in
                 let i : length (map f rs) ≡ length rs = length-map rs f in
-                let b : length (map f rs) < places = rw i (room-is o y (Using p e) ex p ef h (omega arith)) in
+                let b : length (map f rs) < places = rw i (room-is o y (using-entry p e) ex p ef h (omega arith)) in
                 rw d
-                (er ∙ ap (λ (i : ℕ). issued (i + 1)) m, et ∙ rw (y₂, q-is) (added-state s₂ (x .used) a (used-is o y (Using p e) ex ∙ sym i) b refl)))
+                (er ∙ ap (λ (i : ℕ). issued (i + 1)) m, et ∙ rw (y₂, q-is) (added-state s₂ (x .used) a (used-is o y (using-entry p e) ex ∙ sym i) b refl)))
 
 -- ---- 15 load
 
@@ -209,13 +208,13 @@ module _ (t : List ℕ) (l : length t ≡ players-words) (e v : ℕ) where
   abbrev d : State → Result
   d s = step s (Load e v)
 
-  module _ {x : Scan} (ex : x ≡ scanned (Writing loader e) (take 768 (drop 8705 t))) {full : Bool} (ef : full ≡ turned-away (count-in (x .counts)) loader) where
+  module _ {x : Scan} (ex : x ≡ scanned (writing loader e) (take 768 (drop 8705 t))) {full : Bool} (ef : full ≡ turned-away (count-in (x .counts)) loader) where
     pub load-full : full ≡ true → (r : Reply) → r ≡ refusal 38 → Moves d t r t
-    load-full h r er = refused d t l 38 r er (λ s o y. rw (full-is o y (Writing loader e) ex loader ef true h))
+    load-full h r er = refused d t l 38 r er (λ s o y. rw (full-is o y (writing loader e) ex loader ef true h))
 
     module _ (h : full ≡ false) where
       pub load-spent : 4000000 ≤ getD t 0 0 → (r : Reply) → r ≡ refusal 34 → Moves d t r t
-      load-spent k r er = refused d t l 34 r er (λ s o y. rw (full-is o y (Writing loader e) ex loader ef false h, spent-is o y k))
+      load-spent k r er = refused d t l 34 r er (λ s o y. rw (full-is o y (writing loader e) ex loader ef false h, spent-is o y k))
 
       pub load-done : getD t 0 0 < 4000000 → (q : Request) → q ≡ new-request (getD t 0 0 + 1) loader 5 e 0 v open-guard false → (t′ : List ℕ) → t′ ≡ added (x .used) q t → (r : Reply) → r ≡ issued (getD t 0 0 + 1) → Moves d t r t′
       load-done k q eq t′ et r er =
@@ -224,10 +223,10 @@ module _ (t : List ℕ) (l : length t ≡ players-words) (e v : ℕ) where
           let m = last-is o y in
           let a = new-request (s .last + 1) loader 5 e 0 v open-guard false in
           let q-is : q ≡ a = eq ∙ rw m in
-          let done : d s ≡ load s e v = rw (full-is o y (Writing loader e) ex loader ef false h, left-is o y k) in
+          let done : d s ≡ load s e v = rw (full-is o y (writing loader e) ex loader ef false h, left-is o y k) in
           rw done (
             er ∙ ap (λ (i : ℕ). issued (i + 1)) m,
-            et ∙ rw (y, q-is) (added-state s (x .used) a (used-is o y (Writing loader e) ex) (room-is o y (Writing loader e) ex loader ef h (omega arith)) refl),
+            et ∙ rw (y, q-is) (added-state s (x .used) a (used-is o y (writing loader e) ex) (room-is o y (writing loader e) ex loader ef h (omega arith)) refl),
           ))
 
 -- ---- 3 request a guard
@@ -287,7 +286,7 @@ pub record Asks (t : List ℕ) (p : ℕ) (g : Range) : Type 0 where
   pub within : g .high ≤ 256
   pub own : true ≡ all-are p (1 + g .low) (1 + g .high - (1 + g .low)) t
 
-module _ {t : List ℕ} {p : ℕ} {g : Range} (k : Asks t p g) {x : Scan} (ex : x ≡ scanned (Requesting p g) (take 768 (drop 8705 t))) where
+module _ {t : List ℕ} {p : ℕ} {g : Range} (k : Asks t p g) {x : Scan} (ex : x ≡ scanned (requesting p g) (take 768 (drop 8705 t))) where
   abbrev asked : State → Result
   asked s = step s (RequestGuard p g)
 
@@ -295,19 +294,19 @@ module _ {t : List ℕ} {p : ℕ} {g : Range} (k : Asks t p g) {x : Scan} (ex : 
   owned-all s y = owns-is t (k .long) p g (k .player) (k .some) (k .within) s y true (k .own)
 
   pub request-again : x .hit ≡ true → (r : Reply) → r ≡ refusal 31 → Moves asked t r t
-  request-again d r er = refused asked t (k .long) 31 r er (λ s o y. rw (lt-leb 8 p (k .player), lt-ltb (g .low) (g .high) (k .some), le-leb (g .high) 256 (k .within), owned-all s y, hit-is o y (Requesting p g) ex true d))
+  request-again d r er = refused asked t (k .long) 31 r er (λ s o y. rw (lt-leb 8 p (k .player), lt-ltb (g .low) (g .high) (k .some), le-leb (g .high) 256 (k .within), owned-all s y, hit-is o y (requesting p g) ex true d))
 
   module _ (d : x .hit ≡ false) {full : Bool} (ef : full ≡ turned-away (count-in (x .counts)) p) where
     pub request-full : full ≡ true → (r : Reply) → r ≡ refusal 38 → Moves asked t r t
     request-full h r er =
         refused asked t (k .long) 38 r er
-        (λ s o y. rw (full-is o y (Requesting p g) ex p ef true h, lt-leb 8 p (k .player), lt-ltb (g .low) (g .high) (k .some), le-leb (g .high) 256 (k .within), owned-all s y, hit-is o y (Requesting p g) ex false d))
+        (λ s o y. rw (full-is o y (requesting p g) ex p ef true h, lt-leb 8 p (k .player), lt-ltb (g .low) (g .high) (k .some), le-leb (g .high) 256 (k .within), owned-all s y, hit-is o y (requesting p g) ex false d))
 
     module _ (h : full ≡ false) where
       pub request-spent : 4000000 ≤ getD t 0 0 → (r : Reply) → r ≡ refusal 34 → Moves asked t r t
       request-spent n r er =
           refused asked t (k .long) 34 r er
-          (λ s o y. rw (full-is o y (Requesting p g) ex p ef false h, lt-leb 8 p (k .player), lt-ltb (g .low) (g .high) (k .some), le-leb (g .high) 256 (k .within), owned-all s y, hit-is o y (Requesting p g) ex false d, spent-is o y n))
+          (λ s o y. rw (full-is o y (requesting p g) ex p ef false h, lt-leb 8 p (k .player), lt-ltb (g .low) (g .high) (k .some), le-leb (g .high) 256 (k .within), owned-all s y, hit-is o y (requesting p g) ex false d, spent-is o y n))
 
       pub request-done : getD t 0 0 < 4000000 → (t₁ : List ℕ) → t₁ ≡ cleared (p * 256 + g .low) (p * 256 + g .high) t → (q : Request) → q ≡ new-request (getD t 0 0 + 1) p 3 (g .low) (g .high) 0 0 false
           → (t′ : List ℕ) → t′ ≡ added (x .used) q t₁ → (r : Reply) → r ≡ issued (getD t 0 0 + 1) → Moves asked t r t′
@@ -320,8 +319,8 @@ module _ {t : List ℕ} {p : ℕ} {g : Range} (k : Asks t p g) {x : Scan} (ex : 
           let pl = cleared-player lo hi (s .player p) in
           let s₁ = with-player s p pl in
           let y₁ : t₁ ≡ tableOf s₁ = e₁ ∙ ap (cleared (p * 256 + lo) (p * 256 + hi)) y ∙ cleared-put s p (k .player) lo hi (le-of-lt (k .some)) (k .within) pl (λ i _. refl) (λ i _. refl) in
-          let f : asked s ≡ request-guard s p g = rw (full-is o y (Requesting p g) ex p ef false h, lt-leb 8 p (k .player), lt-ltb lo hi (k .some), le-leb hi 256 (k .within), owned-all s y, hit-is o y (Requesting p g) ex false d, left-is o y n) in
+          let f : asked s ≡ request-guard s p g = rw (full-is o y (requesting p g) ex p ef false h, lt-leb 8 p (k .player), lt-ltb lo hi (k .some), le-leb hi 256 (k .within), owned-all s y, hit-is o y (requesting p g) ex false d, left-is o y n) in
           let j = new-request (s .last + 1) p 3 lo hi 0 0 false in
           let q-is : q ≡ j = eq ∙ rw m in
           let c = k .player in
-          rw f (er ∙ ap (λ (i : ℕ). issued (i + 1)) m, et ∙ rw (y₁, q-is) (added-state s₁ (x .used) j (used-is o y (Requesting p g) ex) (room-is o y (Requesting p g) ex p ef h (omega arith)) refl)))
+          rw f (er ∙ ap (λ (i : ℕ). issued (i + 1)) m, et ∙ rw (y₁, q-is) (added-state s₁ (x .used) j (used-is o y (requesting p g) ex) (room-is o y (requesting p g) ex p ef h (omega arith)) refl)))

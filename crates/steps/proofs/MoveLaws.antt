@@ -6,12 +6,12 @@ use mathlib.Core.List.{List}
 use Prim.Native.Nat.{ℕ, _≤_, _<_}
 use lib.ListN.{length, getD, take, drop}
 use Rattle.store.specs.declared.Reply.{Reply}
-use Rattle.requests.specs.declared.Look.{Look}
+use Rattle.requests.specs.declared.Request.{Request}
 use Rattle.requests.specs.declared.Scan.{Scan}
 use Rattle.requests.specs.Model.{places, loader, any}
 use Rattle.requests.specs.Shares.{turned-away, no-place, count-in}
 use Rattle.requests.specs.Region.{regionOf}
-use Rattle.requests.specs.Calls.{scan-of, scanned, sought}
+use Rattle.requests.specs.Calls.{scan-of, scanned}
 use Rattle.requests.proofs.CountLaws.{turned-counted}
 use Rattle.requests.proofs.RegionLaws.{scanned-region}
 use Rattle.players.specs.Replies.{refusal}
@@ -54,14 +54,14 @@ module _ {t : List ℕ} {s : State} (o : Ok s) (e : t ≡ tableOf s) where
   part-is = ap (λ (u : List ℕ). take 768 (drop 8705 u)) e ∙ part-of s
 
   -- what a pass over the requests tells
-  module _ (x : Look) {r : Scan} (er : r ≡ scanned x (take 768 (drop 8705 t))) where
-    scan-is : r ≡ scan-of x (s .requests)
-    scan-is = er ∙ ap (scanned x) part-is ∙ scanned-region (s .last) (s .requests) (few-requests o) (o .requests) x
+  module _ (f : Request → Bool) {r : Scan} (er : r ≡ scanned f (take 768 (drop 8705 t))) where
+    scan-is : r ≡ scan-of f (s .requests)
+    scan-is = er ∙ ap (scanned f) part-is ∙ scanned-region (s .last) (s .requests) (few-requests o) (o .requests) f
 
     pub used-is : r .used ≡ length (s .requests)
     used-is = ap (λ (y : Scan). y .used) scan-is
 
-    pub hit-is : (b : Bool) → r .hit ≡ b → any (sought x) (s .requests) ≡ b
+    pub hit-is : (b : Bool) → r .hit ≡ b → any f (s .requests) ≡ b
     hit-is b eb = sym (ap (λ (y : Scan). y .hit) scan-is) ∙ eb
 
     -- whether no place is left for the player, by its counts

@@ -2,7 +2,6 @@
 use crate::cells;
 use crate::issued;
 use players::layout;
-use requests::Look;
 use requests::Request;
 use requests::kinds;
 use requests::region;
@@ -102,9 +101,10 @@ pub(crate) fn request_guard(players: &mut [u32], player: u8, range: Range) -> Re
     ) {
         return refuse(codes::NOT_OWNER);
     }
-    let scan = region::scan(
+    let scan = region::scan_requesting(
         &players[layout::REQUESTS..layout::REQUESTS_END],
-        Look::Requesting { player, range },
+        player,
+        range,
     );
     if scan.hit {
         return refuse(codes::ALREADY_REQUESTED);
@@ -138,9 +138,10 @@ pub(crate) fn read(players: &mut [u32], player: u8, entry: u8) -> Reply
             b: players[layout::CACHED_VALUES + i],
         };
     }
-    let scan = region::scan(
+    let scan = region::scan_writing(
         &players[layout::REQUESTS..layout::REQUESTS_END],
-        Look::Writing { player, entry },
+        player,
+        entry,
     );
     if shares::is_full(scan.counts, player) {
         return refuse(codes::NO_PLACE_LEFT);
@@ -189,9 +190,10 @@ pub(crate) fn write(players: &mut [u32], player: u8, entry: u8, value: u32) -> R
     if guard == 0 {
         return refuse(codes::NO_LIVE_GUARD);
     }
-    let scan = region::scan(
+    let scan = region::scan_using(
         &players[layout::REQUESTS..layout::REQUESTS_END],
-        Look::Using { player, entry },
+        player,
+        entry,
     );
     if shares::is_full(scan.counts, player) {
         return refuse(codes::NO_PLACE_LEFT);

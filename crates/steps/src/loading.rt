@@ -2,7 +2,6 @@
 use crate::issued;
 use crate::issuing;
 use players::layout;
-use requests::Look;
 use requests::kinds;
 use requests::region;
 use requests::shares;
@@ -23,9 +22,10 @@ pub(crate) fn load(players: &mut [u32], entry: u8, value: u32) -> Reply
     ensures { λ r. ⌜ Moves (λ s. step s (Load entry value)) (now (players .entry)) r (now (players .exit)) ⌝ }
 {
     let player = requests::layout::LOADER;
-    let scan = region::scan(
+    let scan = region::scan_writing(
         &players[layout::REQUESTS..layout::REQUESTS_END],
-        Look::Writing { player, entry },
+        player,
+        entry,
     );
     if shares::is_full(scan.counts, player) {
         return refuse(codes::NO_PLACE_LEFT);

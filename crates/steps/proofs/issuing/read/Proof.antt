@@ -50,17 +50,17 @@ returns-2 c =
     let a = c .before .before .before .before .before .before .before .args in
     read-hit (a .players .now) (c .before .before .before .before .before .before .before .pre) (a .player) (a .entry) (omega arith) (omega arith) (sym (c .before .before .if2 .taken) ∙ c .before .before .before .is-hit .ensures)
 
-sub-scan : tie.Need-sub-scan
-sub-scan c = search needs
+sub-scan-writing : tie.Need-sub-scan-writing
+sub-scan-writing c = search needs
 
-part-scan-start : tie.Need-part-scan-start
-part-scan-start c = search needs
+part-scan-writing-start : tie.Need-part-scan-writing-start
+part-scan-writing-start c = search needs
 
-part-scan-end : tie.Need-part-scan-end
-part-scan-end c = search needs
+part-scan-writing-end : tie.Need-part-scan-writing-end
+part-scan-writing-end c = search needs
 
-scan-requires : tie.Need-scan-requires
-scan-requires c κs = search needs
+scan-writing-requires : tie.Need-scan-writing-requires
+scan-writing-requires c κs = search needs
 
 is-full-requires : tie.Need-is-full-requires
 is-full-requires c κs = search needs
@@ -79,7 +79,7 @@ returns-3 c =
     let e1 = e2 .before .before .before in
     let x = e1 .before .before in
     let a = x .args in
-    read-full (a .players .now) (x .pre) (a .player) (a .entry) (omega (arith, e1 .if1 .left)) (omega (arith, x .fits)) (sym (e2 .if2 .left) ∙ e2 .before .is-hit .ensures) (s .scan .ensures) (i .is-full .ensures) (c .before .if3 .taken) _ (c .refuse2 .ensures)
+    read-full (a .players .now) (x .pre) (a .player) (a .entry) (omega (arith, e1 .if1 .left)) (omega (arith, x .fits)) (sym (e2 .if2 .left) ∙ e2 .before .is-hit .ensures) (s .scan-writing .ensures) (i .is-full .ensures) (c .before .if3 .taken) _ (c .refuse2 .ensures)
 
 slice-read-last : tie.Need-slice-read-last
 slice-read-last c = search needs
@@ -99,7 +99,7 @@ returns-4 c =
     let e1 = e2 .before .before .before in
     let x = e1 .before .before in
     let a = x .args in
-    read-spent (a .players .now) (x .pre) (a .player) (a .entry) (omega (arith, e1 .if1 .left)) (omega (arith, x .fits)) (sym (e2 .if2 .left) ∙ e2 .before .is-hit .ensures) (s .scan .ensures) (i .is-full .ensures) (e3 .if3 .left) (omega (arith, c .before .if4 .taken)) _ (c .refuse3 .ensures)
+    read-spent (a .players .now) (x .pre) (a .player) (a .entry) (omega (arith, e1 .if1 .left)) (omega (arith, x .fits)) (sym (e2 .if2 .left) ∙ e2 .before .is-hit .ensures) (s .scan-writing .ensures) (i .is-full .ensures) (e3 .if3 .left) (omega (arith, c .before .if4 .taken)) _ (c .refuse3 .ensures)
 
 live-guard-requires : tie.Need-live-guard-requires
 live-guard-requires c κs = search needs
@@ -133,7 +133,7 @@ returns-5 c =
     let e1 = e2 .before .before .before in
     let x = e1 .before .before in
     let a = x .args in
-    read-done (a .players .now) (x .pre) (a .player) (a .entry) (omega (arith, e1 .if1 .left)) (omega (arith, x .fits)) (sym (e2 .if2 .left) ∙ e2 .before .is-hit .ensures) (s .scan .ensures) (i .is-full .ensures) (e3 .if3 .left) (omega (arith, e4 .if4 .left)) _ (v .live-guard .ensures)
+    read-done (a .players .now) (x .pre) (a .player) (a .entry) (omega (arith, e1 .if1 .left)) (omega (arith, x .fits)) (sym (e2 .if2 .left) ∙ e2 .before .is-hit .ensures) (s .scan-writing .ensures) (i .is-full .ensures) (e3 .if3 .left) (omega (arith, e4 .if4 .left)) _ (v .live-guard .ensures)
     _ (c .before .before .before .before .for-entry .ensures) _ (c .before .before .before .add .ensures) _ (c .issued .ensures)
 
 pub read-spec : {M : Type 1} → statement M
@@ -153,10 +153,10 @@ read-spec =
     slice-read-t22
     same-length
     returns-2
-    sub-scan
-    part-scan-start
-    part-scan-end
-    scan-requires
+    sub-scan-writing
+    part-scan-writing-start
+    part-scan-writing-end
+    scan-writing-requires
     is-full-requires
     refuse-requires-2
     same-length-2

@@ -88,17 +88,17 @@ returns-4 c =
     let a = x .args in
     request-owner (a .players .now) (x .pre) (a .player) (a .range) (is-player _ (e1 .if1 .left)) (e2 .if2 .left) (e3 .if3 .left) (sym (not-true _ (e4 .if4 .taken)) ∙ e4 .before .all-are .ensures) _ (c .refuse4 .ensures)
 
-sub-scan : tie.Need-sub-scan
-sub-scan c = lit≤ tt
+sub-scan-requesting : tie.Need-sub-scan-requesting
+sub-scan-requesting c = lit≤ tt
 
-part-scan-start : tie.Need-part-scan-start
-part-scan-start c = lit≤ tt
+part-scan-requesting-start : tie.Need-part-scan-requesting-start
+part-scan-requesting-start c = lit≤ tt
 
-part-scan-end : tie.Need-part-scan-end
-part-scan-end c = has-requests (start (c .before) .pre)
+part-scan-requesting-end : tie.Need-part-scan-requesting-end
+part-scan-requesting-end c = has-requests (start (c .before) .pre)
 
-scan-requires : tie.Need-scan-requires
-scan-requires c κs = tt
+scan-requesting-requires : tie.Need-scan-requesting-requires
+scan-requesting-requires c κs = tt
 
 refuse-requires-5 : tie.Need-refuse-requires-5
 refuse-requires-5 c κs = tt
@@ -109,7 +109,7 @@ same-length-2 c = refl
 returns-5 : tie.Need-returns-5
 returns-5 c =
     let s = c .before .before in
-    request-again (asks (s .before .before .before)) (s .scan .ensures) (c .before .if5 .taken) _ (c .refuse5 .ensures)
+    request-again (asks (s .before .before .before)) (s .scan-requesting .ensures) (c .before .if5 .taken) _ (c .refuse5 .ensures)
 
 is-full-requires : tie.Need-is-full-requires
 is-full-requires c κs = tt
@@ -125,7 +125,7 @@ returns-6 c =
     let i = c .before .before in
     let e5 = i .before in
     let s = e5 .before in
-    request-full (asks (s .before .before .before)) (s .scan .ensures) (e5 .if5 .left) (i .is-full .ensures) (c .before .if6 .taken) _ (c .refuse6 .ensures)
+    request-full (asks (s .before .before .before)) (s .scan-requesting .ensures) (e5 .if5 .left) (i .is-full .ensures) (c .before .if6 .taken) _ (c .refuse6 .ensures)
 
 slice-read-last : tie.Need-slice-read-last
 slice-read-last c = has-last (start (c .before .before .before .before .before .before .before) .pre)
@@ -142,7 +142,7 @@ returns-7 c =
     let i = e6 .before in
     let e5 = i .before in
     let s = e5 .before in
-    request-spent (asks (s .before .before .before)) (s .scan .ensures) (e5 .if5 .left) (i .is-full .ensures) (e6 .if6 .left) (c .before .if7 .taken) _ (c .refuse7 .ensures)
+    request-spent (asks (s .before .before .before)) (s .scan-requesting .ensures) (e5 .if5 .left) (i .is-full .ensures) (e6 .if6 .left) (c .before .if7 .taken) _ (c .refuse7 .ensures)
 
 mul-i : tie.Need-mul-i
 mul-i c = cells (c .before .before .before .before .before .before .before .before) .row
@@ -184,7 +184,7 @@ returns-8 c =
     let i = e6 .before in
     let e5 = i .before in
     let s = e5 .before in
-    request-done (asks (s .before .before .before)) (s .scan .ensures) (e5 .if5 .left) (i .is-full .ensures) (e6 .if6 .left) (e7 .if7 .left)
+    request-done (asks (s .before .before .before)) (s .scan-requesting .ensures) (e5 .if5 .left) (i .is-full .ensures) (e6 .if6 .left) (e7 .if7 .left)
     _ (c .before .before .before .before .before .before .before .before .clear .ensures) _ (c .before .before .before .before .for-guard .ensures) _ (c .before .before .before .add .ensures) _ (c .issued .ensures)
 
 pub request-guard-spec : {M : Type 1} → statement M
@@ -205,10 +205,10 @@ request-guard-spec =
     refuse-requires-4
     same-length
     returns-4
-    sub-scan
-    part-scan-start
-    part-scan-end
-    scan-requires
+    sub-scan-requesting
+    part-scan-requesting-start
+    part-scan-requesting-end
+    scan-requesting-requires
     refuse-requires-5
     same-length-2
     returns-5

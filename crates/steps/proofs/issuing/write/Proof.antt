@@ -74,17 +74,17 @@ returns-3 c =
     let a = x .args in
     write-dead (a .players .now) (x .pre) (a .player) (a .entry) (a .value) (is-player _ (e1 .if1 .left)) (x .fits .entry .fits) (e2 .if2 .left) _ (g .live-guard .ensures) (c .before .if3 .taken) _ (c .refuse3 .ensures)
 
-sub-scan : tie.Need-sub-scan
-sub-scan c = lit≤ tt
+sub-scan-using : tie.Need-sub-scan-using
+sub-scan-using c = lit≤ tt
 
-part-scan-start : tie.Need-part-scan-start
-part-scan-start c = lit≤ tt
+part-scan-using-start : tie.Need-part-scan-using-start
+part-scan-using-start c = lit≤ tt
 
-part-scan-end : tie.Need-part-scan-end
-part-scan-end c = has-requests (c .before .before .before .before .before .before .before .before .pre)
+part-scan-using-end : tie.Need-part-scan-using-end
+part-scan-using-end c = has-requests (c .before .before .before .before .before .before .before .before .pre)
 
-scan-requires : tie.Need-scan-requires
-scan-requires c κs = tt
+scan-using-requires : tie.Need-scan-using-requires
+scan-using-requires c κs = tt
 
 is-full-requires : tie.Need-is-full-requires
 is-full-requires c κs = tt
@@ -105,7 +105,7 @@ returns-4 c =
     let e1 = e2 .before .before in
     let x = e1 .before .before in
     let a = x .args in
-    write-full (a .players .now) (x .pre) (a .player) (a .entry) (a .value) (is-player _ (e1 .if1 .left)) (x .fits .entry .fits) (e2 .if2 .left) _ (g .live-guard .ensures) (e3 .if3 .left) (s .scan .ensures) (i .is-full .ensures) (c .before .if4 .taken) _ (c .refuse4 .ensures)
+    write-full (a .players .now) (x .pre) (a .player) (a .entry) (a .value) (is-player _ (e1 .if1 .left)) (x .fits .entry .fits) (e2 .if2 .left) _ (g .live-guard .ensures) (e3 .if3 .left) (s .scan-using .ensures) (i .is-full .ensures) (c .before .if4 .taken) _ (c .refuse4 .ensures)
 
 slice-read-last : tie.Need-slice-read-last
 slice-read-last c = has-last (start (c .before .before) .pre)
@@ -127,7 +127,7 @@ returns-5 c =
     let e1 = e2 .before .before in
     let x = e1 .before .before in
     let a = x .args in
-    write-spent (a .players .now) (x .pre) (a .player) (a .entry) (a .value) (is-player _ (e1 .if1 .left)) (x .fits .entry .fits) (e2 .if2 .left) _ (g .live-guard .ensures) (e3 .if3 .left) (s .scan .ensures) (i .is-full .ensures) (e4 .if4 .left) (c .before .if5 .taken) _ (c .refuse5 .ensures)
+    write-spent (a .players .now) (x .pre) (a .player) (a .entry) (a .value) (is-player _ (e1 .if1 .left)) (x .fits .entry .fits) (e2 .if2 .left) _ (g .live-guard .ensures) (e3 .if3 .left) (s .scan-using .ensures) (i .is-full .ensures) (e4 .if4 .left) (c .before .if5 .taken) _ (c .refuse5 .ensures)
 
 mul-cache : tie.Need-mul-cache
 mul-cache c = cell c .row
@@ -173,7 +173,7 @@ returns-6 c =
     let e1 = e2 .before .before in
     let x = e1 .before .before in
     let a = x .args in
-    write-done (a .players .now) (x .pre) (a .player) (a .entry) (a .value) (is-player _ (e1 .if1 .left)) (x .fits .entry .fits) (e2 .if2 .left) _ (g .live-guard .ensures) (e3 .if3 .left) (s .scan .ensures) (i .is-full .ensures) (e4 .if4 .left) (e5 .if5 .left)
+    write-done (a .players .now) (x .pre) (a .player) (a .entry) (a .value) (is-player _ (e1 .if1 .left)) (x .fits .entry .fits) (e2 .if2 .left) _ (g .live-guard .ensures) (e3 .if3 .left) (s .scan-using .ensures) (i .is-full .ensures) (e4 .if4 .left) (e5 .if5 .left)
     _ (h .cache .ensures) _ _ (k .cross .ensures) _ (c .before .before .before .before .for-entry .ensures) _ (c .before .before .before .add .ensures) _ (c .issued .ensures)
 
 pub write-spec : {M : Type 1} → statement M
@@ -191,10 +191,10 @@ write-spec =
     refuse-requires-3
     same-length
     returns-3
-    sub-scan
-    part-scan-start
-    part-scan-end
-    scan-requires
+    sub-scan-using
+    part-scan-using-start
+    part-scan-using-end
+    scan-using-requires
     is-full-requires
     refuse-requires-4
     same-length-2

@@ -6,17 +6,17 @@ use Rattle.steps.proofs.IssuingLaws.{next-fits, load-full, load-spent, 
 use Rattle.steps.proofs.loading.load.Statement.{statement}
 use Rattle.steps.proofs.loading.load.Tie as tie
 
-sub-scan : tie.Need-sub-scan
-sub-scan c = search needs
+sub-scan-writing : tie.Need-sub-scan-writing
+sub-scan-writing c = search needs
 
-part-scan-start : tie.Need-part-scan-start
-part-scan-start c = search needs
+part-scan-writing-start : tie.Need-part-scan-writing-start
+part-scan-writing-start c = search needs
 
-part-scan-end : tie.Need-part-scan-end
-part-scan-end c = search needs
+part-scan-writing-end : tie.Need-part-scan-writing-end
+part-scan-writing-end c = search needs
 
-scan-requires : tie.Need-scan-requires
-scan-requires c κs = search needs
+scan-writing-requires : tie.Need-scan-writing-requires
+scan-writing-requires c κs = search needs
 
 is-full-requires : tie.Need-is-full-requires
 is-full-requires c κs = search needs
@@ -33,7 +33,7 @@ returns c =
     let s = i .before in
     let x = s .before .before .before .before in
     let a = x .args in
-    load-full (a .players .now) (x .pre) (a .entry) (a .value) (s .scan .ensures) (i .is-full .ensures) (c .before .if1 .taken) _ (c .refuse .ensures)
+    load-full (a .players .now) (x .pre) (a .entry) (a .value) (s .scan-writing .ensures) (i .is-full .ensures) (c .before .if1 .taken) _ (c .refuse .ensures)
 
 slice-read-last : tie.Need-slice-read-last
 slice-read-last c = search needs
@@ -51,7 +51,7 @@ returns-2 c =
     let s = i .before in
     let x = s .before .before .before .before in
     let a = x .args in
-    load-spent (a .players .now) (x .pre) (a .entry) (a .value) (s .scan .ensures) (i .is-full .ensures) (e1 .if1 .left) (omega (arith, c .before .if2 .taken)) _ (c .refuse2 .ensures)
+    load-spent (a .players .now) (x .pre) (a .entry) (a .value) (s .scan-writing .ensures) (i .is-full .ensures) (e1 .if1 .left) (omega (arith, c .before .if2 .taken)) _ (c .refuse2 .ensures)
 
 add-for-entry : tie.Need-add-for-entry
 add-for-entry c = next-fits _ (c .before .if2 .left)
@@ -79,17 +79,17 @@ returns-3 c =
     let s = i .before in
     let x = s .before .before .before .before in
     let a = x .args in
-    load-done (a .players .now) (x .pre) (a .entry) (a .value) (s .scan .ensures) (i .is-full .ensures) (e1 .if1 .left) (omega (arith, e2 .if2 .left))
+    load-done (a .players .now) (x .pre) (a .entry) (a .value) (s .scan-writing .ensures) (i .is-full .ensures) (e1 .if1 .left) (omega (arith, e2 .if2 .left))
     _ (c .before .before .before .before .for-entry .ensures) _ (c .before .before .before .add .ensures) _ (c .issued .ensures)
 
 pub load-spec : {M : Type 1} → statement M
 load-spec =
     tie.close
     (tie.spec
-    sub-scan
-    part-scan-start
-    part-scan-end
-    scan-requires
+    sub-scan-writing
+    part-scan-writing-start
+    part-scan-writing-end
+    scan-writing-requires
     is-full-requires
     refuse-requires
     same-length
