@@ -6,9 +6,9 @@ use mathlib.Core.Bool.{Bool, true, false, cond, not, _&&_, _||_}
 use mathlib.Core.List.{List, [], _∷_}
 use Prim.Native.Nat.{ℕ, zero, suc, _+_, _-_, _*_, _/_, _%_, _^_, _≤_, _<_}
 use native.Mathlib.Omega.{arith}
-use native.Mathlib.Nat.{zero-add, one-mul}
+use native.Mathlib.Nat.{zero-add}
 use native.Mathlib.Numerals.{add-one}
-use lib.Pow.{pow-add, pow-mono, shl-exact, shr-shr}
+use lib.Pow.{pow-add, pow-mono, shr-shr}
 use borrow.Author.Tests.{eq-eqb, ne-eqb, lt-ltb, le-ltb, le-leb, lt-leb, leb-true, leb-false, not-true, not-false}
 use lib.Dec.{leb, ltb, eqb}
 use lib.ListN.{length}
@@ -93,8 +93,12 @@ count-most p (r ∷ rs) = let k = count-most p rs in cond-elim (λ (n : ℕ). n 
 pub no-unit : (p : ℕ) → loader < p → 0 ≡ unit p
 no-unit p h = rw (lt-leb p loader h)
 
-pub unit-shifted : (p : ℕ) → p ≤ loader → (1 * 2 ^ (7 * p)) % 2 ^ 64 ≡ unit p
-unit-shifted p h = rw (le-leb p loader h) (shl-exact 1 (7 * p) 64 (omega arith) (omega arith) ∙ one-mul (2 ^ (7 * p)))
+pub unit-of : (k : ℕ) {p : ℕ} → p ≡ k → unit k ≡ unit p
+unit-of k e = ap unit (sym e)
+
+-- a number that is at least k, and not k
+pub above : (k : ℕ) {p : ℕ} → k ≤ p → (p ≡ k → ⊥) → suc k ≤ p
+above k h n = omega arith
 
 -- the number is small enough for its word
 unit-most : (p : ℕ) → unit p ≤ 2 ^ 56

@@ -8,14 +8,39 @@ ghost use lib.Dec.{leb};
 ghost use Rattle.requests.specs.Model.{loader};
 ghost use Rattle.requests.specs.Shares.{own-places, common-places, common, turned-away, unit, count-in};
 
-// What one request of the player adds to the counts; a number above the loader's has no count.
+// What one request of the player adds to the counts, 2 to the power of 7 times its number, which compiles to a table of nine words; a number above
+// the loader's has no count.
 pub(crate) fn unit(player: u8) -> u64
     ensures { λ r. ⌜ r ≡ unit player ⌝ }
 {
-    if player > layout::LOADER {
-        return 0;
+    if player == 0 {
+        return 1;
     }
-    1u64 << (7 * player as u32)
+    if player == 1 {
+        return 0x80;
+    }
+    if player == 2 {
+        return 0x4000;
+    }
+    if player == 3 {
+        return 0x20_0000;
+    }
+    if player == 4 {
+        return 0x1000_0000;
+    }
+    if player == 5 {
+        return 0x8_0000_0000;
+    }
+    if player == 6 {
+        return 0x400_0000_0000;
+    }
+    if player == 7 {
+        return 0x2_0000_0000_0000;
+    }
+    if player == layout::LOADER {
+        return 0x100_0000_0000_0000;
+    }
+    0
 }
 
 // The count of the player, or of the loader.
