@@ -74,6 +74,8 @@ impl Phase {
 struct Crowd {
     /// Players, and the loader.
     senders: Vec<u8>,
+    /// Steps that are left until they begin: by then some have guards, and cells in their memory.
+    quiet: u32,
     /// In how many of 100 cases the next step is a request of one of them.
     pace: u32,
 }
@@ -100,6 +102,7 @@ impl Crowd {
         }
         Crowd {
             senders,
+            quiet: [0, 0, 40][rng.index(3)],
             pace: [60, 80, 95][rng.index(3)],
         }
     }
@@ -192,7 +195,6 @@ impl Profile {
     pub fn crowded(rng: &mut Prng, kinds: u8) -> Profile {
         Profile {
             crowd: Some(Crowd::draw(rng, kinds)),
-            prompt: 0,
             ..Profile::draw(rng, kinds)
         }
     }
@@ -208,10 +210,15 @@ impl Profile {
         if rng.chance(self.stray) {
             return any_step(rng, self.kinds);
         }
-        let mut step = match &self.crowd {
+        let mut step = match &mut self.crowd {
+            Some(crowd) if crowd.quiet > 0 => {
+                crowd.quiet -= 1;
+                None
+            }
             Some(crowd) if rng.chance(crowd.pace) => crowd.step(rng, state, self.window),
-            _ => self.follow_up(rng, state),
+            _ => None,
         };
+        step = step.or_else(|| self.follow_up(rng, state));
         for _ in 0..8 {
             step = step.or_else(|| self.fitting_step(rng, state));
         }

@@ -213,7 +213,7 @@ fn mistaken_loads() {
     let expected = [(3, true), (4, false)];
     assert_eq!(marked(Fault::WriteMarksLoads, &steps), expected);
     // And one takes another refusal, of two that apply.
-    let mut full = state_after(&vec![load(9, 5); 16]);
+    let mut full = state_after(&[load(9, 5); 16]);
     full.last_serial = MAX_SERIAL;
     assert_eq!(step(&mut full, load(9, 5)), refused(38));
     let given = step_with(&mut full, load(9, 5), &Fault::LoadSerialFirst);

@@ -135,7 +135,8 @@ fn the_last_common_place() {
 /// "given up or not", and delivered or not: all 22 requests of a player, and all 16 loads, in each state.
 #[test]
 fn every_request_in_flight_counts() {
-    let marks: [&[fn(u32) -> Step]; 4] = [&[], &[deliver], &[abandon], &[deliver, abandon]];
+    type Mark = fn(u32) -> Step;
+    let marks: [&[Mark]; 4] = [&[], &[deliver], &[abandon], &[deliver, abandon]];
     for sent in [reads(0, 22), loads(16)] {
         let serials = 1..=sent.len() as u32;
         let next_one = sent[0];
