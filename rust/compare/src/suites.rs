@@ -302,7 +302,8 @@ fn late(group: &mut Group<impl Library>) {
     }
 }
 
-/// The same after about 64 reads and loads of anyone that nothing delivers; player 0 has entry 0 in its memory.
+/// The same after about 64 reads and loads of anyone that nothing delivers; player 0 has entry 0 in its memory,
+/// and reads it then.
 fn crowded(group: &mut Group<impl Library>) {
     let range = Range::new(0, 1);
     let (player, entry) = (0, 0);
@@ -330,6 +331,7 @@ fn crowded(group: &mut Group<impl Library>) {
             rules::step(&mut state, step);
             steps.push(step);
         }
+        steps.push(Step::Read { player, entry });
         steps.extend(group.drawn(state, 60));
         if group.fails(Case::fresh(Act::Steps(steps))) {
             return;
