@@ -18,7 +18,7 @@ use model::trial::{play, search};
 use crate::support::*;
 
 /// The seed of the random lists: `FAMDRIZE_SEED`, 1 if not set. With 1 every fault that breaks
-/// demand 3 is found within 3,200,000 steps, all but the rarest within 800,000.
+/// demand 3 is found within 1,900,000 steps, all but the rarest within 400,000.
 fn seed() -> u64 {
     std::env::var("FAMDRIZE_SEED")
         .ok()
