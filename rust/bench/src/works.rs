@@ -5,6 +5,7 @@ use model::codec::{self, MARK, MAX_SESSION};
 use model::faults::NoFault;
 use model::generate::Profile;
 use model::prng::Prng;
+use model::reply::Refusal;
 use model::rules;
 use model::state::State;
 use model::states::full_state;
@@ -370,7 +371,8 @@ pub fn kinds() -> Vec<Work> {
 }
 
 /// Full sessions: as many records as a session can have, and as many bytes of all kinds that the port
-/// knows.
+/// knows. In the second every request finds a place, so that it gets the same replies from a library in
+/// which all 64 places are anyone's.
 pub fn sessions() -> Vec<Work> {
     let mut rng = Prng::new(1);
     let mut longest = Vec::new();
@@ -392,11 +394,13 @@ pub fn sessions() -> Vec<Work> {
         let mut profile = Profile::draw(&mut rng, Port.kinds());
         for _ in 0..200 {
             let step = profile.next_step(&mut rng, &state);
+            if rules::step(&mut state, step) == Refusal::NoPlaceLeft.into() {
+                continue;
+            }
             bytes += codec::record(step).len();
             if bytes > MAX_SESSION {
                 break 'full;
             }
-            rules::step(&mut state, step);
             mixed.push(step);
         }
     }
@@ -503,6 +507,7 @@ pub fn calls() -> Vec<Work> {
 #[cfg(test)]
 mod tests {
     use super::*;
+    use model::faults::Fault;
     use model::tables::decode;
 
     /// The state of a work's start tables.
@@ -527,6 +532,20 @@ mod tests {
             crowded += u32::from(before.max(state.requests.len()) == 64);
         }
         assert_eq!(crowded, 16);
+    }
+
+    /// No session has a request that finds no place, with or without shares.
+    #[test]
+    fn sessions_find_their_places() {
+        for work in sessions() {
+            let steps = work.steps();
+            let steps = steps.iter().map(|&fields| Step::try_from(fields));
+            let steps: Vec<Step> = steps.collect::<Result<_, _>>().expect("kinds in force");
+            let (history, state) = play(&steps, &NoFault);
+            let (before, same) = play(&steps, &Fault::NoShares);
+            assert!(history.iter().all(|event| event.reply.code != 38));
+            assert!(history == before && state == same, "{}", work.name);
+        }
     }
 
     /// The tables of the tests have as many requests as their names say.
