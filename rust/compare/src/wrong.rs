@@ -83,7 +83,7 @@ pub enum Point {
     DeliveredUncounted,
     /// Loads take no place.
     LoadsUncounted,
-    /// Other players' requests take no place.
+    /// Others' requests, loads among them, take no place.
     OthersUncounted,
     /// `check` refuses tables that have all common places taken.
     FullSharesRefused,
