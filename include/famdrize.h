@@ -24,15 +24,21 @@ extern "C" {
 
 /* The version of this header, and of the library that it is for. */
 #define FAMDRIZE_VERSION_MAJOR 0
-#define FAMDRIZE_VERSION_MINOR 5
+#define FAMDRIZE_VERSION_MINOR 6
 #define FAMDRIZE_VERSION_PATCH 0
-#define FAMDRIZE_VERSION "0.5.0"
+#define FAMDRIZE_VERSION "0.6.0"
 
-/* Words of the two tables; places of the lent list of requests; the last serial that can be issued. */
+/* Words of the two tables; places for requests in flight, and so of the lent list; the last serial that can be issued. */
 #define FAMDRIZE_STORE_WORDS 1280
 #define FAMDRIZE_PLAYERS_WORDS 9473
 #define FAMDRIZE_REQUESTS 64
 #define FAMDRIZE_LAST_SERIAL 4000000
+
+/* Whose the places are: so many of each player's own, and so many that are common to the players and the loader. Common ones in use are the
+ * loader's requests and each player's above its own places, delivered, given up or neither. A player with fewer requests than it has places of
+ * its own is never refused for want of a place; FAMDRIZE_NO_PLACE_LEFT is for another, or the loader, where the common ones are taken. */
+#define FAMDRIZE_OWN_PLACES 6
+#define FAMDRIZE_COMMON_PLACES 16
 
 /* Guards of the store's entries that are no serials: of an open entry, on which a load or another write that carries 0 commits; of a barred
  * one, in a tablet that restarted, on which no write commits whatever it carries. An entry once guarded or barred is never open again. */
@@ -96,11 +102,12 @@ enum famdrize_code {
     FAMDRIZE_NO_LIVE_GUARD = 30,
     FAMDRIZE_ALREADY_REQUESTED = 31,
     FAMDRIZE_NO_SUCH_REQUEST = 32,
-    FAMDRIZE_NO_PLACE_LEFT = 33,
+    FAMDRIZE_PLACES_TAKEN = 33, /* not in force since 0.6.0; no call gives it */
     FAMDRIZE_NO_SERIAL_LEFT = 34,
     FAMDRIZE_WRONG_BOUNDARY = 35,
     FAMDRIZE_BUFFER_SHORT = 36,
-    FAMDRIZE_SESSION_TOO_LONG = 37
+    FAMDRIZE_SESSION_TOO_LONG = 37,
+    FAMDRIZE_NO_PLACE_LEFT = 38
 };
 
 /* Why a run stopped. */
@@ -178,11 +185,13 @@ FAMDRIZE_INLINE const char *famdrize_code_words(uint32_t code)
     case FAMDRIZE_NO_LIVE_GUARD: return "no live guard";
     case FAMDRIZE_ALREADY_REQUESTED: return "a pending guard request of this player shares an entry";
     case FAMDRIZE_NO_SUCH_REQUEST: return "no request that this step fits";
-    case FAMDRIZE_NO_PLACE_LEFT: return "all 64 places for requests are taken";
+    case FAMDRIZE_PLACES_TAKEN: return "not in force since 0.6.0: all 64 places for requests were taken";
     case FAMDRIZE_NO_SERIAL_LEFT: return "the last serial, 4,000,000, was issued";
     case FAMDRIZE_WRONG_BOUNDARY: return "split at a boundary, or merge where none is";
     case FAMDRIZE_BUFFER_SHORT: return "a buffer shorter than what is to be written";
     case FAMDRIZE_SESSION_TOO_LONG: return "a session of more than 16,384 bytes";
+    case FAMDRIZE_NO_PLACE_LEFT:
+        return "the 16 common places for requests are taken, and the player has 6 requests or more or is the loader";
     default: return "no code of a reply";
     }
 }
@@ -265,7 +274,7 @@ famdrize_reply famdrize_fresh(uint32_t *store, size_t store_words, uint32_t *pla
 famdrize_reply famdrize_check(const uint32_t *store, size_t store_words, const uint32_t *players, size_t players_words);
 
 /* Takes the step of this kind with these fields. First 26 where the kind is not in force, 27 where a field that the kind lacks is not 0;
- * then the step's own: 21, 22, 28, 29, 30, 31, 32, 35, 33, 34, or one of the replies 0 to 9. */
+ * then the step's own: 21, 22, 28, 29, 30, 31, 32, 35, 38, 34, or one of the replies 0 to 9. */
 famdrize_reply famdrize_step(uint32_t *store, size_t store_words, uint32_t *players, size_t players_words, uint8_t kind, uint8_t player,
                              uint8_t entry, uint16_t high, uint32_t value, uint32_t serial);
 

@@ -26,6 +26,8 @@ int main(void)
     printf("words of the store's table: %d\n", FAMDRIZE_STORE_WORDS);
     printf("words of the players' table: %d\n", FAMDRIZE_PLAYERS_WORDS);
     printf("places for requests: %d\n", FAMDRIZE_REQUESTS);
+    printf("places of a player's own: %d\n", FAMDRIZE_OWN_PLACES);
+    printf("common places: %d\n", FAMDRIZE_COMMON_PLACES);
     printf("bytes of the longest session: %d\n", FAMDRIZE_SESSION_BYTES);
     printf("bytes of the longest record: %d\n", FAMDRIZE_RECORD_BYTES);
     printf("most records of a session: %d\n", FAMDRIZE_SESSION_RECORDS);

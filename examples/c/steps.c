@@ -105,6 +105,22 @@ static void run_previews(void)
     print("merge", step(FAMDRIZE_MERGE, 0, 1, 0, 0, 0)); /* no split was taken */
 }
 
+/* One player takes the places of its own and the common ones: it is refused the next, and so is the loader, and another player is not. A
+ * request that is given up keeps its place until it leaves. */
+static void places(void)
+{
+    famdrize_fresh(store, FAMDRIZE_STORE_WORDS, players, FAMDRIZE_PLAYERS_WORDS);
+    for (int sent = 0; sent < FAMDRIZE_OWN_PLACES + FAMDRIZE_COMMON_PLACES; sent++)
+        step(FAMDRIZE_READ, 0, 45, 0, 0, 0);
+    print("read of player 0", step(FAMDRIZE_READ, 0, 45, 0, 0, 0));
+    print("load", step(FAMDRIZE_LOAD, 0, 45, 0, 7, 0));
+    print("read of player 1", step(FAMDRIZE_READ, 1, 45, 0, 0, 0));
+    print("abandon", step(FAMDRIZE_ABANDON, 0, 0, 0, 0, 9));
+    print("read of player 0", step(FAMDRIZE_READ, 0, 45, 0, 0, 0));
+    print("lose", step(FAMDRIZE_LOSE, 0, 0, 0, 0, 9));
+    print("read of player 0", step(FAMDRIZE_READ, 0, 45, 0, 0, 0));
+}
+
 static void store_alone(void)
 {
     print("fresh", famdrize_store_fresh(store, FAMDRIZE_STORE_WORDS));
@@ -182,6 +198,8 @@ int main(void)
     puts("previews");
     previews();
     run_previews();
+    puts("places for requests");
+    places();
     puts("the store alone");
     store_alone();
     puts("records");

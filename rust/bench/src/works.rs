@@ -4,8 +4,8 @@ use calls::{Fields, Library, Range, Reply, Step};
 use model::codec::{self, MARK, MAX_SESSION};
 use model::faults::NoFault;
 use model::generate::Profile;
-use model::numbers::MAX_SERIAL;
 use model::prng::Prng;
+use model::reply::Refusal;
 use model::rules;
 use model::state::State;
 use model::states::full_state;
@@ -184,9 +184,9 @@ fn assign(player: u8, low: u8, high: u16) -> Step {
     Step::Assign { player, range }
 }
 
-fn ask(low: u8, high: u16) -> Step {
+fn ask(player: u8, low: u8, high: u16) -> Step {
     let range = Range::new(low, high);
-    Step::RequestGuard { player: 0, range }
+    Step::RequestGuard { player, range }
 }
 
 fn deliver(serial: u32) -> Step {
@@ -197,10 +197,32 @@ fn respond(serial: u32) -> Step {
     Step::Respond { serial }
 }
 
-/// 64 of something, for entries 0, 4, 8 and so on.
-fn each_fourth(step: impl Fn(u8) -> Step) -> Vec<Step> {
-    (0..64).map(|at| step(4 * at)).collect()
+/// The player that sends the request of this number, 0 to 63, where all places are taken: player 0 the first 22,
+/// for which it has 6 places of its own and the 16 common ones, and each other player 6 in turn.
+fn sender(at: u8) -> u8 {
+    match at {
+        0..=21 => 0,
+        _ => 1 + (at - 22) / 6,
+    }
 }
+
+/// 64 of something, by these players, for entries 0, 4, 8 and so on.
+fn each_fourth(step: impl Fn(u8, u8) -> Step) -> Vec<Step> {
+    (0..64).map(|at| step(sender(at), 4 * at)).collect()
+}
+
+/// The assignments of all entries to the players by which [`each_fourth`] goes: 88 to player 0, and 24 to each
+/// other one. They take the serials 1 to 8.
+fn shared_out() -> Vec<Step> {
+    let others = (1..8).map(|player| {
+        let low = 64 + 24 * player;
+        assign(player, low, u16::from(low) + 24)
+    });
+    [assign(0, 0, 88)].into_iter().chain(others).collect()
+}
+
+/// The first serial after [`shared_out`].
+const FIRST: u32 = 9;
 
 /// Steps over the serials of 64 requests.
 fn serials(first: u32, step: impl Fn(u32) -> Step) -> Vec<Step> {
@@ -211,44 +233,70 @@ fn joined(parts: &[&[Step]]) -> Vec<Step> {
     parts.concat()
 }
 
-/// The steps by which a player that owns all entries, by serial 1, gets 64 guards, by serials 2 to 65.
-fn granted(owned: &[Step], asks: &[Step]) -> Vec<Step> {
-    let mut steps = owned.to_vec();
-    for (serial, &step) in (2..).zip(asks) {
+/// The steps by which the players get 64 guards on entries that they own, by the serials from [`FIRST`] on.
+fn granted(asks: &[Step]) -> Vec<Step> {
+    let mut steps = shared_out();
+    for (serial, &step) in (FIRST..).zip(asks) {
         steps.extend([step, deliver(serial), respond(serial)]);
     }
     steps
 }
 
-/// Every kind, most with 64 requests in flight at the start or the end.
+/// Every kind, most with 64 requests in flight at the start or the end: 22 of player 0 and then 6 of each other
+/// player, each on an entry that its player owns ([`sender`]). Loads are at most 16: of those that arrive each
+/// stands behind three reads, 6 of each player, so that there are 64 too, and those that are sent find 24 reads, 3
+/// of each player, in flight. A player's restart gives up the 6 reads that it has, and after that finds them so.
 pub fn kinds() -> Vec<Work> {
-    let owned = [assign(0, 0, 256)];
-    let asks = each_fourth(|entry| ask(entry, u16::from(entry) + 4));
+    let owned = shared_out();
+    let asks = each_fourth(|player, entry| ask(player, entry, u16::from(entry) + 4));
     // 64 guard intervals, each with its own guard.
-    let guarded = granted(&owned, &asks);
+    let guarded = granted(&asks);
     // As many, each behind an open one.
-    let between = granted(
-        &owned,
-        &each_fourth(|entry| ask(entry + 2, u16::from(entry) + 4)),
-    );
-    let reads = each_fourth(|entry| Step::Read { player: 0, entry });
-    let writes = each_fourth(|entry| Step::Write {
-        player: 0,
+    let between = granted(&each_fourth(|player, entry| {
+        ask(player, entry + 2, u16::from(entry) + 4)
+    }));
+    let reads = each_fourth(|player, entry| Step::Read { player, entry });
+    let writes = each_fourth(|player, entry| Step::Write {
+        player,
         entry,
         value: 7,
     });
-    let finds = each_fourth(|entry| Step::FindInterval { entry });
-    let loads = each_fourth(|entry| Step::Load { entry, value: 7 });
+    // Those of all players but player 0, and as many writes as it may send, of one entry.
+    let others = &reads[22..];
+    let crossing = [writes[0]; 22];
+    let finds = each_fourth(|_, entry| Step::FindInterval { entry });
+    let load = |at: u8| Step::Load {
+        entry: 16 * at,
+        value: 7,
+    };
+    let loads: Vec<Step> = (0..16).map(load).collect();
+    let read_by = |at: u8| Step::Read {
+        player: at % 8,
+        entry: 4 * at,
+    };
+    let few: Vec<Step> = (0..24).map(read_by).collect();
+    let every_fourth_a_load: Vec<Step> = (0..16)
+        .flat_map(|at| {
+            [
+                read_by(3 * at),
+                read_by(3 * at + 1),
+                read_by(3 * at + 2),
+                load(at),
+            ]
+        })
+        .collect();
     let restarted: Vec<Step> = vec![Step::RestartTablet { entry: 0 }];
-    let memory = joined(&[&guarded, &reads[..1], &[deliver(66), respond(66)]]);
+    let sent = FIRST + 64;
+    let memory = joined(&[&guarded, &reads[..1], &[deliver(sent), respond(sent)]]);
     let splits: Vec<Step> = (1..=255).map(|entry| Step::Split { entry }).collect();
     let merges: Vec<Step> = (1..=255).map(|entry| Step::Merge { entry }).collect();
     let after_asks = joined(&[&owned, &asks]);
     let after_reads = joined(&[&guarded, &reads]);
     let after_writes = joined(&[&guarded, &writes]);
-    let delivered = serials(66, deliver);
-    let given_up = serials(66, |serial| Step::Abandon { serial });
-    let answered = serials(66, respond);
+    let delivered = serials(sent, deliver);
+    let given_up = serials(sent, |serial| Step::Abandon { serial });
+    let answered = serials(sent, respond);
+    let loads_delivered: Vec<Step> = delivered.iter().copied().skip(3).step_by(4).collect();
     vec![
         Work::kind("1 assign, 20 entries", &[], &vec![assign(0, 40, 60); 2_000]),
         Work::kind(
@@ -265,14 +313,27 @@ pub fn kinds() -> Vec<Work> {
         Work::kind("4 read, to the store", &guarded, &reads),
         Work::kind("4 read, from memory", &memory, &vec![reads[0]; 4_000]),
         Work::kind("5 write", &guarded, &writes),
-        Work::kind("6 arrive, guard request", &after_asks, &serials(2, deliver)),
+        Work::kind(
+            "5 write, crossing requests of its own",
+            &joined(&[&guarded, others]),
+            &crossing,
+        ),
+        Work::kind(
+            "6 arrive, guard request",
+            &after_asks,
+            &serials(FIRST, deliver),
+        ),
         Work::kind("6 arrive, read", &after_reads, &delivered),
         Work::kind("6 arrive, write", &after_writes, &delivered),
-        Work::kind("6 arrive, load", &joined(&[&between, &loads]), &delivered),
+        Work::kind(
+            "6 arrive, load",
+            &joined(&[&between, &every_fourth_a_load]),
+            &loads_delivered,
+        ),
         Work::kind(
             "7 answer, guard granted",
-            &joined(&[&after_asks, &serials(2, deliver)]),
-            &serials(2, respond),
+            &joined(&[&after_asks, &serials(FIRST, deliver)]),
+            &serials(FIRST, respond),
         ),
         Work::kind(
             "7 answer, read",
@@ -294,7 +355,7 @@ pub fn kinds() -> Vec<Work> {
         Work::kind(
             "9 lose",
             &joined(&[&after_reads, &given_up]),
-            &serials(66, |serial| Step::Lose { serial }),
+            &serials(sent, |serial| Step::Lose { serial }),
         ),
         Work::kind("10 split", &[], &splits),
         Work::kind("11 merge", &splits, &merges),
@@ -305,12 +366,13 @@ pub fn kinds() -> Vec<Work> {
             &vec![Step::RestartPlayer { player: 1 }; 1_000],
         ),
         Work::kind("14 how far a guard reaches", &guarded, &finds.repeat(16)),
-        Work::kind("15 load", &guarded, &loads),
+        Work::kind("15 load", &joined(&[&guarded, &few]), &loads),
     ]
 }
 
 /// Full sessions: as many records as a session can have, and as many bytes of all kinds that the port
-/// knows.
+/// knows. In the second every request finds a place, so that it gets the same replies from a library in
+/// which all 64 places are anyone's.
 pub fn sessions() -> Vec<Work> {
     let mut rng = Prng::new(1);
     let mut longest = Vec::new();
@@ -332,11 +394,13 @@ pub fn sessions() -> Vec<Work> {
         let mut profile = Profile::draw(&mut rng, Port.kinds());
         for _ in 0..200 {
             let step = profile.next_step(&mut rng, &state);
+            if rules::step(&mut state, step) == Refusal::NoPlaceLeft.into() {
+                continue;
+            }
             bytes += codec::record(step).len();
             if bytes > MAX_SESSION {
                 break 'full;
             }
-            rules::step(&mut state, step);
             mixed.push(step);
         }
     }
@@ -358,23 +422,13 @@ pub fn sessions() -> Vec<Work> {
 
 /// Single calls that test the tables; a preview behind what it is the preview of.
 pub fn calls() -> Vec<Work> {
-    let mut full = State::fresh();
-    full.last_serial = MAX_SERIAL;
-    for serial in 1..=64 {
-        rules::step(
-            &mut full,
-            Step::Read {
-                player: 0,
-                entry: 0,
-            },
-        );
-        full.last_serial = serial;
-    }
+    let reads = each_fourth(|player, _| Step::Read { player, entry: 0 });
+    let (_, full) = play(&reads, &NoFault);
     let (player, entry) = (0, 0);
     let read = Step::Read { player, entry };
     let memory = [
         assign(0, 0, 1),
-        ask(0, 1),
+        ask(0, 0, 1),
         deliver(2),
         respond(2),
         read,
@@ -448,4 +502,61 @@ pub fn calls() -> Vec<Work> {
         Work::new("check, 64 requests", &full, Act::Check, 1),
         Work::new("check, full tables", &full_state(), Act::Check, 1),
     ]
+}
+
+#[cfg(test)]
+mod tests {
+    use super::*;
+    use model::faults::Fault;
+    use model::tables::decode;
+
+    /// The state of a work's start tables.
+    fn start(work: &Work) -> State {
+        decode(&work.store, &work.players).expect("tables that keep the rules")
+    }
+
+    /// Every step of every kind is taken, none refused; and most works have 64 requests at the start or the end.
+    #[test]
+    fn every_step_is_taken() {
+        let mut crowded = 0;
+        for work in kinds() {
+            let mut state = start(&work);
+            let before = state.requests.len();
+            let steps = work.steps();
+            assert_eq!(steps.len(), work.each as usize, "{}", work.name);
+            for fields in steps {
+                let step = Step::try_from(fields).expect("a kind in force");
+                let reply = rules::step(&mut state, step);
+                assert!(!reply.is_refusal(), "{}: {step:?}: {reply:?}", work.name);
+            }
+            crowded += u32::from(before.max(state.requests.len()) == 64);
+        }
+        assert_eq!(crowded, 16);
+    }
+
+    /// No session has a request that finds no place, with or without shares.
+    #[test]
+    fn sessions_find_their_places() {
+        for work in sessions() {
+            let steps = work.steps();
+            let steps = steps.iter().map(|&fields| Step::try_from(fields));
+            let steps: Vec<Step> = steps.collect::<Result<_, _>>().expect("kinds in force");
+            let (history, state) = play(&steps, &NoFault);
+            let (before, same) = play(&steps, &Fault::NoShares);
+            assert!(history.iter().all(|event| event.reply.code != 38));
+            assert!(history == before && state == same, "{}", work.name);
+        }
+    }
+
+    /// The tables of the tests have as many requests as their names say.
+    #[test]
+    fn full_tables_are_full() {
+        let places = |name: &str| {
+            let work = calls().into_iter().find(|work| work.name == name);
+            start(&work.expect("a work of this name")).requests.len()
+        };
+        assert_eq!(places("check, fresh tables"), 0);
+        assert_eq!(places("check, 64 requests"), 64);
+        assert_eq!(places("check, full tables"), 64);
+    }
 }

@@ -4,12 +4,12 @@ use calls::{Fields, Library, Reply, Report, Request, Step, KINDS};
 use model::codec::{self, MARK};
 use model::numbers::MAX_SERIAL;
 use model::reply::code;
-use model::rules;
 use model::state::State;
 use model::tables::{self, decode_store, tables_of};
 
 use crate::cells::{Call, Counts, FIND_INTERVAL};
 use crate::oracle::RIGHT;
+use crate::shares::Watch;
 use crate::situations::{OnLoad, PreviewEnd, Situation};
 
 /// What is called.
@@ -227,12 +227,13 @@ impl Case {
         let (mut store, mut players) = (self.store.clone(), self.players.clone());
         let mut state = tables::decode(&self.store, &self.players);
         let mut right = (self.store.clone(), self.players.clone());
+        let mut watch = Watch::default();
         for (at, &step) in steps.iter().enumerate() {
             let previewed = library.preview(&store, &players, step.into());
             let altered = tables_differ((&store, &players), (&right.0, &right.1));
             let model = match &mut state {
                 Ok(state) => {
-                    let (reply, found) = right_step(state, step);
+                    let (reply, found) = right_step(state, step, &mut watch);
                     counts.note_situations(found);
                     if !reply.is_refusal() {
                         right = tables_of(state);
@@ -382,9 +383,9 @@ impl Case {
     }
 }
 
-/// The model's step, and the situations that it meets: those of a step that takes place. (A read from
-/// memory sends nothing.)
-fn right_step(state: &mut State, step: Step) -> (Reply, Vec<Situation>) {
+/// The model's step, and the situations that it meets: but for those of the shares, of a step that takes
+/// place. (A read from memory sends nothing.)
+fn right_step(state: &mut State, step: Step, watch: &mut Watch) -> (Reply, Vec<Situation>) {
     let mut found: Vec<Situation> = match step {
         Step::FindInterval { entry } => {
             Situation::intervals(Call::Step(step.kind()), &state.store, entry)
@@ -394,10 +395,11 @@ fn right_step(state: &mut State, step: Step) -> (Reply, Vec<Situation>) {
             .map(Situation::Load)
             .collect(),
     };
-    let reply = rules::step(state, step);
+    let (reply, shares) = watch.step(state, step);
     if reply.is_refusal() || reply.code == code::FROM_MEMORY {
         found.clear();
     }
+    found.extend(shares.into_iter().map(Situation::Shares));
     (reply, found)
 }
 

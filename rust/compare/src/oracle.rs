@@ -17,7 +17,7 @@ impl<S: Switches> Library for Model<S> {
     }
 
     fn check(&self, store: &[u32], players: &[u32]) -> Reply {
-        tables::check(store, players)
+        tables::check_with(store, players, &self.0)
     }
 
     fn step(&self, store: &mut [u32], players: &mut [u32], step: Fields) -> Reply {

@@ -1,13 +1,13 @@
-//! Situations that must occur, beside the replies: what kinds of guards, guard intervals, loads and
-//! broken tables a call meets, and where the preview of a run ends.
+//! Situations that must occur, beside the replies: what kinds of guards, guard intervals, loads, shares of
+//! places and broken tables a call meets, and where the preview of a run ends.
 
 use std::cmp::Ordering;
 
 use calls::{Report, Step};
-use model::broken::SERIAL_RULES;
+use model::broken::{Crowd, SERIAL_RULES};
 use model::codec;
 use model::faults::NoFault;
-use model::numbers::{BARRED, OPEN};
+use model::numbers::{BARRED, COMMON_PLACES, OPEN};
 use model::preview::MOST_RECORDS;
 use model::run::{AT_END, SPENT};
 use model::state::{Operation, Request, State};
@@ -15,6 +15,7 @@ use model::store::{Store, WriteOutcome};
 use model::table_rules::TableRule;
 
 use crate::cells::{Call, FIND_INTERVAL, LOAD};
+use crate::shares::OnShares;
 
 /// What a guard is, of an entry or carried.
 #[derive(Clone, Copy, Debug, PartialEq, Eq)]
@@ -305,6 +306,10 @@ pub enum Situation {
     Interval(Call, Shape),
     /// A step on loads, or beside one.
     Load(OnLoad),
+    /// A step that sends a request or makes room for one.
+    Shares(OnShares),
+    /// A table in which this crowd has so many common places: 16, which keeps the rules, or 17.
+    Crowded(Crowd, usize),
     /// The preview of a run that ends so.
     Preview(PreviewEnd),
     /// A table that breaks this rule alone.
@@ -321,6 +326,9 @@ const OUTCOMES: [(Call, u32); 4] = [
     (Call::StoreSetGuard, 2),
 ];
 
+/// The common places in use of tables that keep the shares, and of tables that break them.
+pub const CROWDED: [usize; 2] = [COMMON_PLACES, COMMON_PLACES + 1];
+
 /// The calls that find a guard interval.
 const FINDERS: [Call; 2] = [Call::Step(FIND_INTERVAL), Call::StoreFindInterval];
 
@@ -336,6 +344,10 @@ impl Situation {
             all.extend(Shape::ALL.map(|shape| Situation::Interval(call, shape)));
         }
         all.extend(OnLoad::ALL.map(Situation::Load));
+        all.extend(OnShares::ALL.map(Situation::Shares));
+        for common in CROWDED {
+            all.extend(Crowd::ALL.map(|crowd| Situation::Crowded(crowd, common)));
+        }
         all.extend(PreviewEnd::ALL.map(Situation::Preview));
         all.extend(TableRule::ALL.map(Situation::Broken));
         all.extend(SERIAL_RULES.map(Situation::BarredAs));
@@ -359,6 +371,7 @@ impl Situation {
         match self {
             Situation::Outcome(call, _) | Situation::Interval(call, _) => call.needs(),
             Situation::Load(load) if load.is_sending() => LOAD,
+            Situation::Shares(shares) if shares.is_of_loader() => LOAD,
             _ => 0,
         }
     }

@@ -1,10 +1,10 @@
 //! The cases, in groups.
 
 use calls::{Fields, Library, Range, Request, Step, KINDS, MAPS};
-use model::broken::{bar, break_rule, damage, SERIAL_RULES};
+use model::broken::{self, bar, break_rule, damage, Crowd, SERIAL_RULES};
 use model::codec::{self, MARK, MAX_SESSION, RECORD_LENGTHS};
 use model::generate::{any_step, step_for, Profile};
-use model::numbers::{BARRED, MAX_REQUESTS, MAX_SERIAL, OPEN};
+use model::numbers::{BARRED, MAX_REQUESTS, MAX_SERIAL, OPEN, PLAYERS};
 use model::preview::MOST_RECORDS;
 use model::prng::Prng;
 use model::rules;
@@ -16,7 +16,7 @@ use model::tables::{self, tables_of, PLAYERS_WORDS, STORE_WORDS};
 use crate::case::{Act, Case, StoreCall};
 use crate::cells::{Counts, FIND_INTERVAL, LOAD};
 use crate::shrink::{print, shrink};
-use crate::situations::Situation;
+use crate::situations::{Situation, CROWDED};
 
 /// How much is tried, and from which seed.
 #[derive(Clone, Copy, Debug)]
@@ -67,8 +67,13 @@ struct Group<'a, L> {
 
 impl<L: Library> Group<'_, L> {
     /// Steps that a profile draws from a state on.
-    fn drawn(&mut self, mut state: State, length: usize) -> Vec<Step> {
-        let mut profile = Profile::draw(&mut self.rng, self.kinds);
+    fn drawn(&mut self, state: State, length: usize) -> Vec<Step> {
+        let profile = Profile::draw(&mut self.rng, self.kinds);
+        self.drawn_by(profile, state, length)
+    }
+
+    /// Steps that this profile draws from a state on.
+    fn drawn_by(&mut self, mut profile: Profile, mut state: State, length: usize) -> Vec<Step> {
         let mut steps = Vec::with_capacity(length);
         for _ in 0..length {
             let step = profile.next_step(&mut self.rng, &state);
@@ -81,6 +86,14 @@ impl<L: Library> Group<'_, L> {
     /// A step of any kind with any numbers.
     fn any_step(&mut self) -> Step {
         any_step(&mut self.rng, self.kinds)
+    }
+
+    /// A read of each player, and a load if the library knows one.
+    fn requests(&mut self) -> Vec<Step> {
+        let entry = self.rng.below(256) as u8;
+        let reads = (0..PLAYERS as u8).map(|player| Step::Read { player, entry });
+        let load = Step::Load { entry, value: 7 };
+        reads.chain((self.kinds >= LOAD).then_some(load)).collect()
     }
 
     /// A call on both tables.
@@ -192,7 +205,7 @@ pub fn run_to_failure<L: Library>(library: &L, plan: Plan, counts: &mut Counts) 
         .find(|outcome| outcome.failure.is_some())
 }
 
-fn groups<L: Library>() -> [(&'static str, Run<L>); 20] {
+fn groups<L: Library>() -> [(&'static str, Run<L>); 22] {
     [
         ("random sessions, step by step", sessions),
         ("near the last serial", late),
@@ -214,6 +227,8 @@ fn groups<L: Library>() -> [(&'static str, Run<L>); 20] {
         ("the store alone", store_alone),
         ("each word in turn", each_word),
         ("previews of runs around 16 records", previews),
+        ("places taken by a few", crowds),
+        ("tables with the common places taken", crowded_tables),
     ]
 }
 
@@ -287,7 +302,8 @@ fn late(group: &mut Group<impl Library>) {
     }
 }
 
-/// The same after about 64 reads and loads that nothing delivers; player 0 has entry 0 in its memory.
+/// The same after about 64 reads and loads of anyone that nothing delivers; player 0 has entry 0 in its memory,
+/// and reads it then.
 fn crowded(group: &mut Group<impl Library>) {
     let range = Range::new(0, 1);
     let (player, entry) = (0, 0);
@@ -315,9 +331,50 @@ fn crowded(group: &mut Group<impl Library>) {
             rules::step(&mut state, step);
             steps.push(step);
         }
+        steps.push(Step::Read { player, entry });
         steps.extend(group.drawn(state, 60));
         if group.fails(Case::fresh(Act::Steps(steps))) {
             return;
+        }
+    }
+}
+
+/// Random lists in which a few, or all, take the places for requests that they may have; now and then with
+/// few serials left.
+fn crowds(group: &mut Group<impl Library>) {
+    for _ in 0..group.plan.share(1_500) {
+        let mut state = State::fresh();
+        if group.rng.chance(20) {
+            state.last_serial = MAX_SERIAL - group.rng.between(15, 60);
+        }
+        let profile = Profile::crowded(&mut group.rng, group.kinds);
+        let steps = group.drawn_by(profile, state.clone(), 120);
+        if group.fails(case_from(&state, Act::Steps(steps))) {
+            return;
+        }
+    }
+}
+
+/// Tables in which a few have the 16 common places, which keep the rules, or one more, which is 22 from every
+/// call on both tables.
+fn crowded_tables(group: &mut Group<impl Library>) {
+    for _ in 0..group.plan.share(60) {
+        for crowd in Crowd::ALL {
+            for common in CROWDED {
+                let (store, players) = broken::crowded(&mut group.rng, crowd, common);
+                let expected = match tables::decode(&store, &players) {
+                    Ok(_) => common == CROWDED[0],
+                    Err(error) => error == TableError::Rule(TableRule::RequestShares),
+                };
+                if expected {
+                    let met = Situation::Crowded(crowd, common);
+                    group.counts.note_situations([met]);
+                }
+                let acts = [Act::Check, group.any_act(), Act::Steps(group.requests())];
+                if group.any_fails(&store, &players, acts) {
+                    return;
+                }
+            }
         }
     }
 }
@@ -588,8 +645,26 @@ fn lengths(group: &mut Group<impl Library>) {
     }
 }
 
-/// Steps by fields: 26 and 27, also on tables that would be refused themselves.
+/// Steps by fields: 26 and 27, also on tables that would be refused themselves. First each kind with each
+/// field alone, be it one that the kind lacks or has.
 fn any_fields(group: &mut Group<impl Library>) {
+    for kind in 1..=group.kinds {
+        let none = Fields {
+            kind,
+            ..Fields::default()
+        };
+        for fields in [
+            Fields { player: 1, ..none },
+            Fields { entry: 1, ..none },
+            Fields { high: 1, ..none },
+            Fields { value: 1, ..none },
+            Fields { serial: 1, ..none },
+        ] {
+            if group.fails(Case::fresh(Act::Fields(fields))) {
+                return;
+            }
+        }
+    }
     for _ in 0..group.plan.share(6_000) {
         let state = start(&mut group.rng);
         let mut case = case_from(&state, Act::Fields(group.any_fields()));

@@ -7,6 +7,8 @@
 
 use calls::{Decoded, Fields, Library, Reply, Report, Request, KINDS};
 use model::faults::Fault;
+use model::numbers::{COMMON_PLACES, LOADER, MAX_REQUESTS, OWN_PLACES, PLAYERS};
+use model::shares::{self, common_in_use};
 use model::table_rules::{TableError, TableRule};
 use model::tables;
 use port::Port;
@@ -55,14 +57,38 @@ pub enum Point {
     FreshMissesLastWord,
     /// A refused step takes a serial.
     RefusedTakesSerial,
-    /// 33 with one place left.
+    /// 38 with one common place left.
     OnePlaceFewer,
+    /// 38 from the 18th common request on.
+    OnePlaceMore,
     /// 34 with one serial left.
     OneSerialFewer,
-    /// A read from memory is refused where no place is left.
+    /// A read from memory is refused where its player finds no place.
     CacheReadNeedsPlace,
-    /// 34 before 33.
+    /// 34 before 38.
     SerialsBeforePlaces,
+    /// 33, which 38 has replaced.
+    OldNumber,
+    /// 38 to a player with 5 requests.
+    SixthTurnedAway,
+    /// 38 to every player once the common places are taken.
+    AllTurnedAway,
+    /// 38 from a player's 7th request on.
+    OwnPlacesAlone,
+    /// All 64 places are anyone's.
+    NoShares,
+    /// Requests that are given up take no place.
+    AbandonedUncounted,
+    /// Requests that are delivered take no place.
+    DeliveredUncounted,
+    /// Loads take no place.
+    LoadsUncounted,
+    /// Others' requests, loads among them, take no place.
+    OthersUncounted,
+    /// `check` refuses tables that have all common places taken.
+    FullSharesRefused,
+    /// `check` passes over requests that are given up when it counts the common places.
+    SharesOfPendingAlone,
     /// A request that leaves last stays in the words of its place, but for its serial.
     LeavesWords,
     /// A new write is overlapped by a pending read too.
@@ -111,7 +137,7 @@ pub enum Point {
 
 impl Point {
     /// Every point.
-    pub const ALL: [Point; 44] = [
+    pub const ALL: [Point; 56] = [
         Point::RefusesEachStep,
         Point::RepliesOneToAll,
         Point::SetsNothing,
@@ -131,9 +157,21 @@ impl Point {
         Point::FreshMissesLastWord,
         Point::RefusedTakesSerial,
         Point::OnePlaceFewer,
+        Point::OnePlaceMore,
         Point::OneSerialFewer,
         Point::CacheReadNeedsPlace,
         Point::SerialsBeforePlaces,
+        Point::OldNumber,
+        Point::SixthTurnedAway,
+        Point::AllTurnedAway,
+        Point::OwnPlacesAlone,
+        Point::NoShares,
+        Point::AbandonedUncounted,
+        Point::DeliveredUncounted,
+        Point::LoadsUncounted,
+        Point::OthersUncounted,
+        Point::FullSharesRefused,
+        Point::SharesOfPendingAlone,
         Point::LeavesWords,
         Point::ReadOverlapsWrite,
         Point::NeighboursNotJoined,
@@ -182,8 +220,6 @@ impl Wrong {
     }
 }
 
-const FULL: usize = tables::REQUESTS + 63 * 12;
-
 /// The players' table with some cells emptied, by their running numbers.
 fn without_cells(players: &[u32], numbers: impl IntoIterator<Item = usize>) -> Vec<u32> {
     let mut players = players.to_vec();
@@ -199,12 +235,53 @@ fn without_cells(players: &[u32], numbers: impl IntoIterator<Item = usize>) -> V
     players
 }
 
+/// The requests of a players' table, 12 words each.
+fn requests(players: &[u32]) -> impl Iterator<Item = &[u32]> {
+    let places = players[tables::REQUESTS..].chunks(12);
+    places.take_while(|place| place[0] != 0)
+}
+
 /// The number of requests of a players' table.
 fn used(players: &[u32]) -> usize {
-    players[tables::REQUESTS..]
-        .chunks(12)
-        .take_while(|place| place[0] != 0)
-        .count()
+    requests(players).count()
+}
+
+/// The players' table with these requests in place of its own, of which the first 64 find a place.
+fn with_requests(players: &[u32], requests: &[&[u32]]) -> Vec<u32> {
+    let mut players = players.to_vec();
+    let places = &mut players[tables::REQUESTS..];
+    places.fill(0);
+    for (place, request) in places.chunks_mut(12).zip(requests) {
+        place.copy_from_slice(request);
+    }
+    players
+}
+
+/// A step where some requests take no place: they are set aside for it.
+fn let_in(
+    store: &mut [u32],
+    players: &mut [u32],
+    step: Fields,
+    is_set_aside: impl Fn(&[u32]) -> bool,
+) -> Reply {
+    let before = players.to_vec();
+    let (aside, kept): (Vec<&[u32]>, Vec<&[u32]>) =
+        requests(&before).partition(|request| is_set_aside(request));
+    let mut left = with_requests(players, &kept);
+    let reply = Port.step(store, &mut left, step);
+    let mut all: Vec<&[u32]> = requests(&left).chain(aside).collect();
+    all.sort_by_key(|request| request[0]);
+    players.copy_from_slice(&with_requests(&left, &all));
+    reply
+}
+
+/// The requests of each player and of the loader, by the words of a players' table that keeps the rules.
+fn counted(players: &[u32]) -> shares::Counts {
+    let mut counts = [0; PLAYERS + 1];
+    for request in requests(players) {
+        counts[request[1] as usize] += 1;
+    }
+    counts
 }
 
 impl Library for Wrong {
@@ -239,6 +316,17 @@ impl Library for Wrong {
         if reply.code == 22 && self.is(Point::CheckMissesLastCell) {
             return Port.check(store, &without_cells(players, [2_047]));
         }
+        if reply.code == 0 && self.is(Point::FullSharesRefused) {
+            let full = common_in_use(&counted(players)) == COMMON_PLACES;
+            return Reply::refused(if full { 22 } else { 0 });
+        }
+        if reply.code == 22 && self.is(Point::SharesOfPendingAlone) {
+            if let Err(TableError::Rule(TableRule::RequestShares)) = tables::decode(store, players)
+            {
+                let pending: Vec<&[u32]> = requests(players).filter(|r| r[9] == 0).collect();
+                return Port.check(store, &with_requests(players, &pending));
+            }
+        }
         reply
     }
 
@@ -260,7 +348,11 @@ impl Library for Wrong {
             reply
         };
         let last = before.1[0];
-        let full = before.1[FULL] != 0;
+        let counts = counted(&before.1);
+        let common = common_in_use(&counts);
+        let number = u32::from(step.player);
+        let own = counts[usize::from(step.player).min(PLAYERS)];
+        let sent = reply.code == 1 && matches!(step.kind, 3..=5);
         match point {
             Point::RefusesEachStep => undone(store, players, Reply::refused(32)),
             Point::RepliesOneToAll => undone(store, players, Reply::new(1, last + 1, 0)),
@@ -269,14 +361,48 @@ impl Library for Wrong {
                 players[0] += 1;
                 reply
             }
-            Point::OnePlaceFewer if reply.code == 1 && players[FULL] != 0 && !full => {
-                undone(store, players, Reply::refused(33))
+            Point::OnePlaceFewer if sent && own >= OWN_PLACES && common + 1 == COMMON_PLACES => {
+                undone(store, players, Reply::refused(38))
+            }
+            Point::SixthTurnedAway if sent && own + 1 == OWN_PLACES && common == COMMON_PLACES => {
+                undone(store, players, Reply::refused(38))
+            }
+            Point::AllTurnedAway if sent && common == COMMON_PLACES => {
+                undone(store, players, Reply::refused(38))
+            }
+            Point::OwnPlacesAlone if sent && own >= OWN_PLACES => {
+                undone(store, players, Reply::refused(38))
+            }
+            Point::OldNumber if reply.code == 38 => Reply::refused(33),
+            Point::OnePlaceMore if reply.code == 38 => {
+                let oldest = requests(&before.1).find(|r| r[1] == number);
+                let oldest = oldest.map_or(0, |request| request[0]);
+                let_in(store, players, step, |r| r[0] == oldest)
+            }
+            Point::NoShares if reply.code == 38 && used(players) < MAX_REQUESTS => {
+                let_in(store, players, step, |_| true)
+            }
+            Point::AbandonedUncounted if reply.code == 38 => {
+                let_in(store, players, step, |r| r[9] == 1)
+            }
+            Point::DeliveredUncounted if reply.code == 38 => {
+                let_in(store, players, step, |r| r[8] == 1)
+            }
+            Point::LoadsUncounted if reply.code == 38 => {
+                let_in(store, players, step, |r| r[1] == u32::from(LOADER))
+            }
+            Point::OthersUncounted if reply.code == 38 => {
+                let_in(store, players, step, |r| r[1] != number)
             }
             Point::OneSerialFewer if reply.code == 1 && players[0] == 4_000_000 => {
                 undone(store, players, Reply::refused(34))
             }
-            Point::CacheReadNeedsPlace if reply.code == 2 && full => Reply::refused(33),
-            Point::SerialsBeforePlaces if reply.code == 33 && last == 4_000_000 => {
+            Point::CacheReadNeedsPlace
+                if reply.code == 2 && own >= OWN_PLACES && common == COMMON_PLACES =>
+            {
+                Reply::refused(38)
+            }
+            Point::SerialsBeforePlaces if reply.code == 38 && last == 4_000_000 => {
                 Reply::refused(34)
             }
             Point::LeavesWords if used(players) < used(&before.1) => {

@@ -21,6 +21,8 @@ pub enum PreviewPoint {
     TablesBeforeFields,
     /// As it takes no serial, it needs none: no 34.
     NeedsNoSerial,
+    /// As it takes no place, it needs none: no 38.
+    NeedsNoPlace,
     /// A read from memory is said to go to the store.
     PassesMemoryBy,
     /// The run takes its whole budget.
@@ -49,12 +51,13 @@ pub enum PreviewPoint {
 
 impl PreviewPoint {
     /// Every point.
-    pub const ALL: [PreviewPoint; 17] = [
+    pub const ALL: [PreviewPoint; 18] = [
         PreviewPoint::TablesAlone,
         PreviewPoint::LastSerial,
         PreviewPoint::BrokenTablesTaken,
         PreviewPoint::TablesBeforeFields,
         PreviewPoint::NeedsNoSerial,
+        PreviewPoint::NeedsNoPlace,
         PreviewPoint::PassesMemoryBy,
         PreviewPoint::WholeBudget,
         PreviewPoint::CountsAs17,
@@ -78,6 +81,7 @@ impl PreviewPoint {
             PreviewPoint::TablesBeforeFields if tested.is_refusal() => tested,
             PreviewPoint::LastSerial if right.code == 1 => Reply::new(1, players[0], 0),
             PreviewPoint::NeedsNoSerial if right.code == 34 => Reply::new(1, players[0] + 1, 0),
+            PreviewPoint::NeedsNoPlace if right.code == 38 => Reply::new(1, players[0] + 1, 0),
             PreviewPoint::PassesMemoryBy if right.code == 2 => Reply::new(1, players[0] + 1, 0),
             PreviewPoint::BrokenTablesTaken if right.code == 22 => {
                 let (store, players) = fresh_tables();
@@ -116,7 +120,7 @@ impl PreviewPoint {
             PreviewPoint::ClearsList => run(Wrong::In(Point::RunClearsList), MOST_RECORDS, replies),
             PreviewPoint::WritesBehindReplies => {
                 let places = replies.chunks_exact(3);
-                let filled = places.take_while(|reply| reply[0] <= 37).count();
+                let filled = places.take_while(|reply| reply[0] <= 38).count();
                 run(right, MOST_RECORDS, &mut replies[3 * filled..])
             }
             _ => run(right, MOST_RECORDS, replies),

@@ -22,6 +22,7 @@ fn port_agrees() {
     let (_, wrong, _) = counts.table(Port.kinds());
     assert!(wrong.is_empty(), "{wrong:?}");
     assert!(counts.seen(Call::Step(4), 2) > 100);
+    assert!(counts.seen(Call::Step(4), 38) > 100);
 }
 
 /// All that can occur occurs, of the kinds that the port does not know too. The model stands beside itself, so only the cells are a test.
@@ -35,9 +36,10 @@ fn every_cell_is_filled() {
     run_all(&RIGHT, plan, &mut counts);
     let (_, wrong, cells) = counts.table(KINDS);
     assert!(wrong.is_empty(), "{wrong:?}");
-    assert_eq!(cells, 414);
+    assert_eq!(cells, 460);
     assert!(counts.seen(Call::Step(FIND_INTERVAL), 9) > 1_000);
     assert!(counts.seen(Call::Step(LOAD), 1) > 1_000);
+    assert!(counts.seen(Call::Step(LOAD), 38) > 100);
     assert!(counts.seen(Call::PreviewRun, 9) > 1_000);
 }
 
@@ -58,5 +60,5 @@ fn wrong_libraries_are_caught() {
         assert!(!of_preview || text.contains("preview, "), "{text}");
         tried += 1;
     });
-    assert_eq!(tried, 154);
+    assert_eq!(tried, 187);
 }

@@ -1,8 +1,10 @@
 //! The words for every code of a reply or refusal, and for every reason for which a run stops; the
 //! numbers that the crate names. codes.txt is what it prints.
 
-use famdrize::{Reply, Why, BARRED, LOADER, MOST_RECORDS, OPEN_GUARD, PLAYERS_WORDS};
-use famdrize::{PREVIEW_RECORDS, RECORD_BYTES, REQUESTS, SESSION_BYTES, STORE_WORDS};
+use famdrize::{Reply, Why, BARRED, COMMON_PLACES, LOADER, MOST_RECORDS, OPEN_GUARD, OWN_PLACES};
+use famdrize::{
+    PLAYERS_WORDS, PREVIEW_RECORDS, RECORD_BYTES, REQUESTS, SESSION_BYTES, STORE_WORDS,
+};
 
 fn main() {
     println!("codes of replies and refusals");
@@ -22,6 +24,8 @@ fn main() {
     println!("words of the store's table: {STORE_WORDS}");
     println!("words of the players' table: {PLAYERS_WORDS}");
     println!("places for requests: {REQUESTS}");
+    println!("places of a player's own: {OWN_PLACES}");
+    println!("common places: {COMMON_PLACES}");
     println!("bytes of the longest session: {SESSION_BYTES}");
     println!("bytes of the longest record: {RECORD_BYTES}");
     println!("most records of a session: {MOST_RECORDS}");

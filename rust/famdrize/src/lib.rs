@@ -30,6 +30,28 @@
 //! [`PREVIEW_RECORDS`] records; `Tables` has both. They alter nothing but the list for the replies, and take about 44 KB of stack, for copies
 //! of the tables.
 //!
+//! # Places for requests
+//!
+//! At most [`REQUESTS`] requests are in flight. Each player has [`OWN_PLACES`] places of its own, so that one player's delayed writes do not
+//! keep another from asking; the loader, and a player with more requests, take one of the [`COMMON_PLACES`], and are refused
+//! ([`Refusal::NoPlaceLeft`]) where these are taken.
+//!
+#![cfg_attr(feature = "alloc", doc = "```")]
+#![cfg_attr(not(feature = "alloc"), doc = "```ignore")]
+//! use famdrize::{Player, Refusal, Reply, Step, Tables, COMMON_PLACES, OWN_PLACES};
+//!
+//! let mut tables = Tables::fresh();
+//! let mut read = |player: u8| {
+//!     let player = Player::new(player).unwrap();
+//!     tables.step(Step::Read { player, entry: 45 })
+//! };
+//! for _ in 0..OWN_PLACES + COMMON_PLACES {
+//!     assert!(read(0).into_result().is_ok());
+//! }
+//! assert_eq!(read(0), Reply::Refused(Refusal::NoPlaceLeft));
+//! assert_eq!(read(1), Reply::Issued { serial: 23 });
+//! ```
+//!
 //! # Refusals
 //!
 //! A call that can be refused gives a [`Refusal`], and alters nothing then. A refused step is a [`Reply`] like another, since a session holds
@@ -67,7 +89,7 @@ pub use owned::{Session, Store, Tables};
 pub use preview::PREVIEW_RECORDS;
 pub use reply::{Refusal, Reply};
 pub use report::{Report, Why};
-pub use requests::{pending, Request, LOADER, REQUESTS};
+pub use requests::{pending, Request, COMMON_PLACES, LOADER, OWN_PLACES, REQUESTS};
 pub use session::{decode, encode, is_marked, put_mark, Record, SessionMut};
 pub use session::{MOST_RECORDS, RECORD_BYTES, SESSION_BYTES};
 pub use step::{Fields, Step};

@@ -70,7 +70,7 @@ mod tests {
     }
 
     /// Steps on fresh tables, by kind, player, entry, high, value and serial, and their replies: every kind, every reply, and every refusal
-    /// that checked tables can give but 33 and 34.
+    /// that checked tables can give but 34 and 38.
     const STEPS: [([u32; 6], [u32; 3]); 39] = [
         ([14, 0, 45, 0, 0, 0], [9, 0, 255]),
         ([0, 0, 0, 0, 0, 0], [26, 0, 0]),
@@ -136,12 +136,20 @@ mod tests {
         let load = Step::Load { entry: 9, value: 5 };
         let (mut store, mut players) = fresh();
         let mut tables = TablesMut::check(&mut store, &mut players).unwrap();
-        for serial in 1..=64 {
+        for serial in 1..=16 {
             assert_eq!(tables.preview(load), Reply::Issued { serial });
             assert_eq!(tables.step(load), Reply::Issued { serial });
         }
         let refused = Reply::Refused(Refusal::NoPlaceLeft);
         assert_eq!(tables.preview(load), refused);
+        // a player has places of its own
+        let player = Player::new(3).unwrap();
+        let read = Step::Read { player, entry: 9 };
+        for serial in 17..=22 {
+            assert_eq!(tables.preview(read), Reply::Issued { serial });
+            assert_eq!(tables.step(read), Reply::Issued { serial });
+        }
+        assert_eq!(tables.preview(read), refused);
         let (mut store, mut players) = fresh();
         players[0] = 4_000_000;
         let tables = TablesMut::check(&mut store, &mut players).unwrap();

@@ -225,11 +225,12 @@ refusals! {
     NoLiveGuard = 30, "no live guard";
     AlreadyRequested = 31, "a pending guard request of this player shares an entry";
     NoSuchRequest = 32, "no request that this step fits";
-    NoPlaceLeft = 33, "all 64 places for requests are taken";
+    PlacesTaken = 33, "not in force since 0.6.0: all 64 places for requests were taken";
     NoSerialLeft = 34, "the last serial, 4,000,000, was issued";
     WrongBoundary = 35, "split at a boundary, or merge where none is";
     BufferShort = 36, "a buffer shorter than what is to be written";
     SessionTooLong = 37, "a session of more than 16,384 bytes";
+    NoPlaceLeft = 38, "the 16 common places for requests are taken, and the player has 6 requests or more or is the loader";
 }
 
 impl Refusal {
@@ -284,7 +285,8 @@ mod tests {
         assert_eq!(Refusal::NoMark.number(), 23);
         assert_eq!(Refusal::NotOwner.number(), 29);
         assert_eq!(Refusal::SessionTooLong.number(), 37);
-        for number in [0, 1, 9, 20, 38, u32::MAX] {
+        assert_eq!(Refusal::NoPlaceLeft.number(), 38);
+        for number in [0, 1, 9, 20, 39, u32::MAX] {
             assert_eq!(Refusal::from_number(number), None);
         }
     }
@@ -342,7 +344,8 @@ mod tests {
             [10, 0, 0],
             [20, 0, 0],
             [32, 1, 0],
-            [38, 0, 0],
+            [38, 1, 0],
+            [39, 0, 0],
         ] {
             assert_eq!(Reply::from_numbers(numbers), None);
         }
@@ -368,11 +371,12 @@ mod tests {
             (30, "no live guard"),
             (31, "a pending guard request of this player shares an entry"),
             (32, "no request that this step fits"),
-            (33, "all 64 places for requests are taken"),
+            (33, "not in force since 0.6.0: all 64 places for requests were taken"),
             (34, "the last serial, 4,000,000, was issued"),
             (35, "split at a boundary, or merge where none is"),
             (36, "a buffer shorter than what is to be written"),
             (37, "a session of more than 16,384 bytes"),
+            (38, "the 16 common places for requests are taken, and the player has 6 requests or more or is the loader"),
         ];
         assert_eq!(told.len(), Refusal::ALL.len());
         for (refusal, (number, words)) in Refusal::ALL.iter().zip(told) {

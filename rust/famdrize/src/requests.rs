@@ -4,8 +4,18 @@ use core::array;
 
 use crate::{raw, Player, Refusal, PLAYERS_WORDS};
 
-/// Places for requests in flight.
+/// Places for requests in flight: [`OWN_PLACES`] of each player's own, and [`COMMON_PLACES`].
 pub const REQUESTS: usize = 64;
+
+/// Places for requests of a player's own: a player with fewer requests in flight is never refused for want of a place.
+pub const OWN_PLACES: usize = 6;
+
+/// Places for requests that are common to the players and the loader. Those in use are the loader's requests and each player's above
+/// [`OWN_PLACES`], given up or not.
+pub const COMMON_PLACES: usize = 16;
+
+// The players' own and the common ones are all.
+const _: () = assert!(8 * OWN_PLACES + COMMON_PLACES == REQUESTS);
 
 /// What stands in place of a player's number in a request that is a load. (As the owner of an entry, in the words of a table, the same number
 /// is nobody.)

@@ -430,14 +430,68 @@ mod tests {
     fn all_places_are_offered() {
         let (mut store, mut players) = lent();
         let mut tables = TablesMut::fresh(&mut store, &mut players);
-        for serial in 1..=64 {
+        // player 3 has 6 places of its own and takes the 16 common ones, the others have 6 each
+        for serial in 1..=22 {
             assert_eq!(tables.step(read(3, 9)), issued(serial));
         }
         let full = Reply::Refused(Refusal::NoPlaceLeft);
         assert_eq!(tables.step(read(3, 9)), full);
-        assert_eq!(tables.pending(player(3)), 64);
+        let mut serial = 22;
+        for other in [0, 1, 2, 4, 5, 6, 7] {
+            for _ in 0..6 {
+                serial += 1;
+                assert_eq!(tables.step(read(other, 9)), issued(serial));
+            }
+            assert_eq!(tables.step(read(other, 9)), full);
+            assert_eq!(tables.pending(player(other)), 6);
+        }
+        assert_eq!(tables.pending(player(3)), 22);
         for (serial, request) in (1..).zip(tables.requests()) {
             assert_eq!(request.serial, serial);
+        }
+        assert_eq!(tables.requests()[63].serial, 64);
+    }
+
+    #[test]
+    fn a_request_given_up_keeps_its_place() {
+        let (mut store, mut players) = lent();
+        let mut tables = TablesMut::fresh(&mut store, &mut players);
+        for serial in 1..=22 {
+            assert_eq!(tables.step(read(3, 9)), issued(serial));
+        }
+        let full = Reply::Refused(Refusal::NoPlaceLeft);
+        let load = Step::Load { entry: 9, value: 5 };
+        assert_eq!(tables.step(Step::Abandon { serial: 9 }), Reply::Done);
+        assert_eq!(tables.step(read(3, 9)), full);
+        assert_eq!(tables.step(load), full);
+        assert_eq!(tables.step(Step::Lose { serial: 9 }), Reply::Done);
+        assert_eq!(tables.step(load), issued(23));
+        assert_eq!(tables.step(read(3, 9)), full);
+        assert_eq!(tables.step(Step::Deliver { serial: 23 }), Reply::Done);
+        assert_eq!(tables.step(read(3, 9)), full);
+        let answer = Reply::Committed {
+            serial: 23,
+            value: 5,
+        };
+        assert_eq!(tables.step(Step::Respond { serial: 23 }), answer);
+        assert_eq!(tables.step(read(3, 9)), issued(24));
+    }
+
+    #[test]
+    fn tables_that_break_the_shares_are_refused() {
+        // 16 common places are in use, then 17: 22 requests of a player, then 23; 16 loads, then 17
+        for (player, kind, most) in [(3, 4, 22), (8, 5, 16)] {
+            let (mut store, mut players) = lent();
+            TablesMut::fresh(&mut store, &mut players);
+            players[0] = 64;
+            for place in 0..=most {
+                let first = 8705 + 12 * place;
+                assert!(TablesMut::check(&mut store, &mut players).is_ok());
+                let serial = place as u32 + 1;
+                players[first..first + 4].copy_from_slice(&[serial, player, kind, 9]);
+            }
+            let refused = TablesMut::check(&mut store, &mut players).map(|_| ());
+            assert_eq!(refused, Err(Refusal::TableRules));
         }
     }
 

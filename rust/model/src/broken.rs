@@ -2,7 +2,7 @@
 
 use calls::Range;
 
-use crate::numbers::{BARRED, LOADER, MAX_SERIAL, OPEN};
+use crate::numbers::{BARRED, COMMON_PLACES, LOADER, MAX_SERIAL, OPEN, OWN_PLACES, PLAYERS};
 use crate::prng::Prng;
 use crate::request_words::{RequestWords, REQUEST_WORDS};
 use crate::state::{Cached, Operation, Request, State};
@@ -300,8 +300,101 @@ fn break_by(rng: &mut Prng, rule: TableRule, above: impl Fn(u32) -> u32) -> (Vec
             let place = [LOAD, LOAD_DELIVERED][rng.index(2)];
             change(&mut players, place, |r| r.overlapped = 1);
         }
+        TableRule::RequestShares => {
+            let crowd = Crowd::ALL[rng.index(Crowd::ALL.len())];
+            return crowded(rng, crowd, COMMON_PLACES + 1);
+        }
     }
     (store, players)
+}
+
+/// Who has the common places.
+#[derive(Clone, Copy, Debug, PartialEq, Eq)]
+pub enum Crowd {
+    /// One player.
+    Player,
+    /// The loader.
+    Loader,
+    /// Two players.
+    TwoPlayers,
+    /// A player and the loader.
+    PlayerAndLoader,
+    /// One player, with requests that are given up.
+    PlayerAbandoned,
+    /// The loader, with loads that are given up.
+    LoaderAbandoned,
+}
+
+impl Crowd {
+    /// Every one.
+    pub const ALL: [Crowd; 6] = [
+        Crowd::Player,
+        Crowd::Loader,
+        Crowd::TwoPlayers,
+        Crowd::PlayerAndLoader,
+        Crowd::PlayerAbandoned,
+        Crowd::LoaderAbandoned,
+    ];
+
+    /// How many requests each sender has, so that this many common places are in use. Of two, the first has
+    /// 8 of them: with 17, two players have 6 + 8 and 6 + 9 requests.
+    fn shares(self, rng: &mut Prng, common: usize) -> Vec<(u8, usize)> {
+        let first = rng.below(PLAYERS as u32) as u8;
+        let second = (first + rng.between(1, PLAYERS as u32 - 1) as u8) % PLAYERS as u8;
+        let half = COMMON_PLACES / 2;
+        match self {
+            Crowd::Player | Crowd::PlayerAbandoned => vec![
+                (first, OWN_PLACES + common),
+                (second, rng.index(OWN_PLACES + 1)),
+            ],
+            Crowd::Loader | Crowd::LoaderAbandoned => {
+                vec![(LOADER, common), (second, rng.index(OWN_PLACES + 1))]
+            }
+            Crowd::TwoPlayers => vec![
+                (first, OWN_PLACES + half),
+                (second, OWN_PLACES + common - half),
+            ],
+            Crowd::PlayerAndLoader => vec![(first, OWN_PLACES + half), (LOADER, common - half)],
+        }
+    }
+}
+
+/// Tables in which this crowd has so many of the common places: with 16 they keep the rules, with 17 they break
+/// the shares and no other rule.
+pub fn crowded(rng: &mut Prng, crowd: Crowd, common: usize) -> (Vec<u32>, Vec<u32>) {
+    let mut state = rich_state(rng);
+    let first_serial = state.requests[0].serial;
+    let mut requests = Vec::new();
+    for (player, count) in crowd.shares(rng, common) {
+        for _ in 0..count {
+            let drawn = rich_requests(rng, state.last_serial);
+            let at = match player {
+                LOADER => LOAD + rng.index(USED - LOAD),
+                _ => rng.index(LOAD),
+            };
+            requests.push(Request {
+                player,
+                ..drawn[at]
+            });
+        }
+    }
+    if matches!(crowd, Crowd::PlayerAbandoned | Crowd::LoaderAbandoned) {
+        // Its first request is given up, and others.
+        let drawn = rich_requests(rng, state.last_serial);
+        requests[0].operation = match requests[0].player {
+            LOADER => drawn[LOAD].operation,
+            _ => drawn[READ].operation,
+        };
+        for request in requests.iter_mut().filter(|r| !r.is_delivered()) {
+            request.abandoned = true;
+        }
+    }
+    rng.shuffle(&mut requests);
+    for (serial, request) in (first_serial..).zip(&mut requests) {
+        request.serial = serial;
+    }
+    state.requests = requests;
+    tables_of(&state)
 }
 
 fn place(at: usize) -> std::ops::Range<usize> {

@@ -123,7 +123,7 @@ pub enum Fault {
     LoadNeedsOwnership,
     /// A load is refused where the entry is not open, before it is sent.
     LoadNeedsOpenGuard,
-    /// A load tests 34 before 33.
+    /// A load tests 34 before 38.
     LoadSerialFirst,
     /// "carrying 0": a load carries the store's guard of the entry.
     LoadCarriesGuard,
@@ -148,11 +148,49 @@ pub enum Fault {
     RestartPlayerAbandonsLoads,
     /// Step 13 takes player 8, and gives up the waiting loads.
     LoaderRestarts,
+    /// "given up or not": requests that are given up take no place.
+    AbandonedUncounted,
+    /// Requests that are delivered take no place.
+    DeliveredUncounted,
+    /// Only requests that are neither delivered nor given up take a place.
+    OnlyUnderwayCounted,
+    /// "or is the loader": the loader too has 6 places of its own.
+    LoaderHasOwnPlaces,
+    /// "the loader's rows plus": loads take no common place.
+    LoadsUncounted,
+    /// "each player's above 6": of the players, the sender's requests above 6 alone take common places.
+    OthersUncounted,
+    /// "the 16 common rows are in use": 38 from the 18th common request on.
+    SeventeenthLetIn,
+    /// 38 with one common place left.
+    SixteenthTurnedAway,
+    /// "A player with fewer than 6 rows is never turned away": one with 5 is.
+    SixthTurnedAway,
+    /// "6 rows of its own": a player has 7.
+    SevenOwnPlaces,
+    /// "A player with fewer than 6 rows is never turned away": everyone is once the common places are taken.
+    AllTurnedAway,
+    /// "and the 16 common rows are in use": 38 from a player's 7th request on, and for each load.
+    OwnPlacesAlone,
+    /// The rule of 33 under the number 38: all 64 places are anyone's.
+    NoShares,
+    /// Steps 3, 4 and 5 test 34 before 38.
+    SerialBeforePlace,
+    /// A read from memory gets 38 where a request of its player would.
+    MemoryReadNeedsPlace,
+    /// "it takes 33's place": the number is still 33.
+    OldNumber,
+    /// "Tables breaking these shares are 22": they are taken.
+    SharesUntested,
+    /// Tables that have all 16 common places in use are 22.
+    FullSharesRefused,
+    /// "given up or not": the test of the tables passes over requests that are given up.
+    SharesOfPendingAlone,
 }
 
 impl Fault {
     /// Every fault.
-    pub const ALL: [Fault; 54] = [
+    pub const ALL: [Fault; 73] = [
         Fault::ReadBesideWriteCached,
         Fault::LateGuardGranted,
         Fault::AbandonKeepsGuards,
@@ -207,6 +245,25 @@ impl Fault {
         Fault::AbandonedLoadClears,
         Fault::RestartPlayerAbandonsLoads,
         Fault::LoaderRestarts,
+        Fault::AbandonedUncounted,
+        Fault::DeliveredUncounted,
+        Fault::OnlyUnderwayCounted,
+        Fault::LoaderHasOwnPlaces,
+        Fault::LoadsUncounted,
+        Fault::OthersUncounted,
+        Fault::SeventeenthLetIn,
+        Fault::SixteenthTurnedAway,
+        Fault::SixthTurnedAway,
+        Fault::SevenOwnPlaces,
+        Fault::AllTurnedAway,
+        Fault::OwnPlacesAlone,
+        Fault::NoShares,
+        Fault::SerialBeforePlace,
+        Fault::MemoryReadNeedsPlace,
+        Fault::OldNumber,
+        Fault::SharesUntested,
+        Fault::FullSharesRefused,
+        Fault::SharesOfPendingAlone,
     ];
 
     /// Whether some list of steps breaks demand 3 with this fault. The others change replies or
@@ -239,6 +296,8 @@ impl Fault {
     ///   `AbandonedLoadClears`: less is remembered, which is the safe side.
     /// - `RestartPlayerAbandonsLoads`, `LoaderRestarts`: a load that is given up may still arrive, and
     ///   demand 3 asks no write to be answered.
+    /// - `AbandonedUncounted` and all after it: a step refused, or not refused, for want of a place changes
+    ///   nothing in the line, however many requests are in flight.
     pub fn breaks_demand_3(self) -> bool {
         !matches!(
             self,
@@ -268,6 +327,25 @@ impl Fault {
                 | Fault::AbandonedLoadClears
                 | Fault::RestartPlayerAbandonsLoads
                 | Fault::LoaderRestarts
+                | Fault::AbandonedUncounted
+                | Fault::DeliveredUncounted
+                | Fault::OnlyUnderwayCounted
+                | Fault::LoaderHasOwnPlaces
+                | Fault::LoadsUncounted
+                | Fault::OthersUncounted
+                | Fault::SeventeenthLetIn
+                | Fault::SixteenthTurnedAway
+                | Fault::SixthTurnedAway
+                | Fault::SevenOwnPlaces
+                | Fault::AllTurnedAway
+                | Fault::OwnPlacesAlone
+                | Fault::NoShares
+                | Fault::SerialBeforePlace
+                | Fault::MemoryReadNeedsPlace
+                | Fault::OldNumber
+                | Fault::SharesUntested
+                | Fault::FullSharesRefused
+                | Fault::SharesOfPendingAlone
         )
     }
 }

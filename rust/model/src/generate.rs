@@ -3,7 +3,7 @@
 
 use calls::{bit, has, Fields, Range, Step, KINDS};
 
-use crate::numbers::{Entries, ENTRIES, MAX_SERIAL, NOBODY, PLAYERS};
+use crate::numbers::{Entries, ENTRIES, LOADER, MAX_SERIAL, NOBODY, PLAYERS};
 use crate::prng::Prng;
 use crate::state::{Operation, Request, State};
 
@@ -36,6 +36,8 @@ pub struct Profile {
     reads: u32,
     /// Which of the requests that fit is taken.
     taken: Taken,
+    /// Who crowds the places for requests; mostly nobody.
+    crowd: Option<Crowd>,
     /// The longest phase; 0 for none.
     longest_phase: u32,
     phase: Phase,
@@ -67,6 +69,71 @@ impl Phase {
     }
 }
 
+/// Senders that take the places for requests, up to the last that they may have.
+#[derive(Clone, Debug)]
+struct Crowd {
+    /// Players, and the loader.
+    senders: Vec<u8>,
+    /// Steps that are left until they begin: by then some have guards, and cells in their memory.
+    quiet: u32,
+    /// In how many of 100 cases the next step is a request of one of them.
+    pace: u32,
+}
+
+impl Crowd {
+    /// One player, two or three, the loader, one player and the loader, or all; those that the kinds 1 up to
+    /// this one know.
+    fn draw(rng: &mut Prng, kinds: u8) -> Crowd {
+        let loader = (kinds >= LOAD).then_some(LOADER);
+        let first = rng.below(PLAYERS as u32) as u8;
+        let next = |by: u8| (first + by) % PLAYERS as u8;
+        let mut senders = match rng.below(6) {
+            0 | 1 => vec![first],
+            2 => vec![first, next(1)],
+            3 => vec![first, next(1), next(3)],
+            4 => Vec::new(),
+            _ => (0..PLAYERS as u8).collect(),
+        };
+        if senders.is_empty() || rng.chance(40) {
+            senders.extend(loader);
+        }
+        if senders.is_empty() {
+            senders.push(first);
+        }
+        Crowd {
+            senders,
+            quiet: [0, 0, 40][rng.index(3)],
+            pace: [60, 80, 95][rng.index(3)],
+        }
+    }
+
+    /// A request of one of the senders: a load of the loader; of a player a read, or a write or a guard request
+    /// where it owns an entry of the window.
+    fn step(&self, rng: &mut Prng, state: &State, window: Range) -> Option<Step> {
+        let &player = rng.pick(&self.senders)?;
+        let entries = window.entries();
+        let entry = (entries.start + rng.index(entries.len())) as u8;
+        let value = rng.between(1, 9);
+        if player == LOADER {
+            return Some(Step::Load { entry, value });
+        }
+        let mut owned = entries.filter(|&at| state.owners[at] == player);
+        let step = match (rng.below(6), owned.next()) {
+            (0, Some(own)) => Step::RequestGuard {
+                player,
+                range: Range::new(own as u8, own as u16 + 1),
+            },
+            (1 | 2, Some(own)) => Step::Write {
+                player,
+                entry: own as u8,
+                value,
+            },
+            _ => Step::Read { player, entry },
+        };
+        Some(step)
+    }
+}
+
 /// Which of the requests that fit is taken.
 #[derive(Clone, Copy, Debug)]
 enum Taken {
@@ -74,6 +141,9 @@ enum Taken {
     Oldest,
     Newest,
 }
+
+/// The kind that sends a load.
+const LOAD: u8 = Step::Load { entry: 0, value: 0 }.kind();
 
 /// How often each kind is drawn before a profile changes it; those after the last that stands here as often as it.
 const WEIGHTS: [u32; KINDS as usize] = {
@@ -113,9 +183,19 @@ impl Profile {
             timeouts: [0, 0, 20, 60][rng.index(4)],
             reads: [0, 10, 30][rng.index(3)],
             taken: [Taken::Any, Taken::Any, Taken::Oldest, Taken::Newest][rng.index(4)],
+            crowd: None,
             longest_phase: [0, 4, 10][rng.index(3)],
             phase: Phase::NONE,
             previous: None,
+        }
+    }
+
+    /// A new profile by which some senders take all the places for requests that they may have; some of
+    /// their requests leave, and others come in their place.
+    pub fn crowded(rng: &mut Prng, kinds: u8) -> Profile {
+        Profile {
+            crowd: Some(Crowd::draw(rng, kinds)),
+            ..Profile::draw(rng, kinds)
         }
     }
 
@@ -130,7 +210,15 @@ impl Profile {
         if rng.chance(self.stray) {
             return any_step(rng, self.kinds);
         }
-        let mut step = self.follow_up(rng, state);
+        let mut step = match &mut self.crowd {
+            Some(crowd) if crowd.quiet > 0 => {
+                crowd.quiet -= 1;
+                None
+            }
+            Some(crowd) if rng.chance(crowd.pace) => crowd.step(rng, state, self.window),
+            _ => None,
+        };
+        step = step.or_else(|| self.follow_up(rng, state));
         for _ in 0..8 {
             step = step.or_else(|| self.fitting_step(rng, state));
         }
@@ -374,6 +462,7 @@ pub fn step_for(rng: &mut Prng, state: &State, kinds: u8) -> Step {
         timeouts: 10,
         reads: 10,
         taken: Taken::Any,
+        crowd: None,
         longest_phase: 0,
         phase: Phase::NONE,
         previous: None,

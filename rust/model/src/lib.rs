@@ -1,6 +1,6 @@
 //! An independent model of document 01, "Guards, players and cached reads in a reel store", and of the
 //! requests of document 02 that are in force: §1, how far a guard reaches; §2, loading before opening;
-//! §4, trying a step first.
+//! §4, trying a step first; §5, rows for everyone.
 //!
 //! It is written from the text of the documents alone, so that the proved library can be compared
 //! with it: reply for reply, and word for word of both tables. Sentences of document 01 stand in
@@ -34,6 +34,7 @@ pub mod reply;
 pub mod request_words;
 pub mod rules;
 pub mod run;
+pub mod shares;
 pub mod shrink;
 pub mod state;
 pub mod states;

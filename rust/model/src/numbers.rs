@@ -13,6 +13,10 @@ pub const NOBODY: u8 = 8;
 pub const LOADER: u8 = 8;
 /// "up to 64 rows in flight"
 pub const MAX_REQUESTS: usize = 64;
+/// Document 02 §5: "Each of the eight players now has 6 rows of its own".
+pub const OWN_PLACES: usize = 6;
+/// Document 02 §5: "the other 16 are common to the players and the loader".
+pub const COMMON_PLACES: usize = 16;
 /// "One count of serials, 0 when fresh, last usable 4,000,000"
 pub const MAX_SERIAL: u32 = 4_000_000;
 /// Document 02 §2: "guard 0 is open and matches a carried 0".
@@ -51,3 +55,6 @@ impl Entries for Range {
         u16::from(self.low) < other.high && u16::from(other.low) < self.high
     }
 }
+
+// "the other 16": the players' own places and the common ones are all.
+const _: () = assert!(PLAYERS * OWN_PLACES + COMMON_PLACES == MAX_REQUESTS);

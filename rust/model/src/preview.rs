@@ -12,7 +12,7 @@ pub const MOST_RECORDS: u32 = 16;
 /// "A preview takes tables and a step, alters nothing and gives that reply, for every kind and refusal":
 /// for 21 and 22 too, which the step tests first.
 pub fn step(store: &[u32], players: &[u32], step: Step, faults: &impl Switches) -> Reply {
-    match tables::decode(store, players) {
+    match tables::decode_with(store, players, faults) {
         Ok(mut state) => rules::step_with(&mut state, step, faults),
         Err(error) => Reply::from(error.refusal()),
     }

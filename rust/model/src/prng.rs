@@ -47,6 +47,13 @@ impl Prng {
         items.get(index)
     }
 
+    /// Puts the items in any order.
+    pub fn shuffle<T>(&mut self, items: &mut [T]) {
+        for at in 1..items.len() {
+            items.swap(at, self.index(at + 1));
+        }
+    }
+
     /// A 32-bit number: small, large or any.
     pub fn word(&mut self) -> u32 {
         match self.below(4) {

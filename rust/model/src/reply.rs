@@ -54,7 +54,8 @@ pub enum Refusal {
     GuardRequestPending = 31,
     /// "32 no row that this step fits"
     NoRequest = 32,
-    /// "33 a row is needed and all 64 are taken"
+    /// "33 a row is needed and all 64 are taken". Document 02 §5: 38 "takes 33's place", so no call gives
+    /// it any more, but for one fault.
     RequestsFull = 33,
     /// "34 a serial is needed and none is left"
     SerialsSpent = 34,
@@ -64,6 +65,9 @@ pub enum Refusal {
     BufferShort = 36,
     /// "37 longer than 16,384 bytes"
     SessionLong = 37,
+    /// Document 02 §5: "38 when the player has 6 rows or more, or is the loader, and the 16 common rows
+    /// are in use"
+    NoPlaceLeft = 38,
 }
 
 impl Refusal {

@@ -1,17 +1,16 @@
 //! The steps on a state that keeps the table rules: those of document 01, and kinds 14 and 15 of
 //! document 02.
 //!
-//! "For a step: 21, 22, 28, 29, 30, 31, 32, 35, 33, 34." The first two belong to the tables of
-//! words (see `tables`); the others are tested here in this order, and a refused step changes
-//! nothing.
+//! "For a step: 21, 22, 28, 29, 30, 31, 32, 35, 33, 34.", where by document 02 §5 38 "takes 33's place".
+//! The first two belong to the tables of words (see `tables`); the others are tested here in this order,
+//! and a refused step changes nothing.
 
 use calls::{bit, Fields, Range, Reply, Step, KINDS};
 
 use crate::faults::{Fault, NoFault, Switches};
-use crate::numbers::{
-    Entries, BARRED, ENTRIES, LOADER, MAX_REQUESTS, MAX_SERIAL, NOBODY, OPEN, PLAYERS,
-};
+use crate::numbers::{Entries, BARRED, ENTRIES, LOADER, MAX_SERIAL, NOBODY, OPEN, PLAYERS};
 use crate::reply::{code, Refusal};
+use crate::shares;
 use crate::state::{Cached, Operation, Request, State};
 use crate::store::{GuardOutcome, Versioned, WriteOutcome};
 
@@ -27,17 +26,17 @@ pub fn step_with(state: &mut State, step: Step, faults: &impl Switches) -> Reply
 
 /// What each kind of step can reply, kind 1 first, but for 21 and 22: "Step 1 to 5 give 1 unless
 /// read from memory; 7 gives 3 to 8; the rest 0", and "Who can cause a refusal"; of kinds 14 and 15,
-/// document 02 §1 and §2.
+/// document 02 §1 and §2; 38 "takes 33's place", document 02 §5.
 pub const REPLIES: [&[u32]; KINDS as usize] = [
     // "1 assign, 2 release: take a serial": 1; 28 player, range; 34. They test no owner.
     &[1, 28, 34],
     &[1, 28, 34],
-    // "29 not owner of every entry (steps 3, 5)"; "31 ... (step 3)"; "33 a row is needed"; 34.
-    &[1, 28, 29, 31, 33, 34],
+    // "29 not owner of every entry (steps 3, 5)"; "31 ... (step 3)"; a row is needed: 38; 34.
+    &[1, 28, 29, 31, 34, 38],
     // "Any player may read": no 29; from memory 2.
-    &[1, 2, 28, 33, 34],
+    &[1, 2, 28, 34, 38],
     // "30 no live guard (step 5)".
-    &[1, 28, 29, 30, 33, 34],
+    &[1, 28, 29, 30, 34, 38],
     // "32 no row that this step fits (6 not arrived; 7 arrived and waiting; 8 waiting; 9 given up)".
     &[0, 32],
     &[3, 4, 5, 6, 7, 8, 32],
@@ -51,7 +50,7 @@ pub const REPLIES: [&[u32]; KINDS as usize] = [
     // Document 02 §1: "replies 9 with first and last entry". Every entry has a guard, open, barred or a serial.
     &[9],
     // Document 02 §2: "a load, reply 1: a row"; "needing no ownership", so no 29.
-    &[1, 33, 34],
+    &[1, 34, 38],
 ];
 
 fn perform(state: &mut State, step: Step, faults: &impl Switches) -> Result<Reply, Refusal> {
@@ -108,10 +107,17 @@ fn next_serial(state: &State) -> Result<u32, Refusal> {
     Ok(state.last_serial + 1)
 }
 
-/// The serial of the next request; "33 a row is needed and all 64 are taken" comes before 34.
-fn next_request(state: &State) -> Result<u32, Refusal> {
-    if state.requests.len() >= MAX_REQUESTS {
-        return Err(Refusal::RequestsFull);
+/// The serial of the next request of this player, or of the loader. Document 02 §5: 38 "takes 33's place", so
+/// it comes before 34.
+fn next_request(state: &State, sender: u8, faults: &impl Switches) -> Result<u32, Refusal> {
+    if faults.has(Fault::SerialBeforePlace) && sender != LOADER {
+        next_serial(state)?;
+    }
+    if shares::is_turned_away(&state.requests, sender, faults) {
+        return Err(match faults.has(Fault::OldNumber) {
+            true => Refusal::RequestsFull,
+            false => Refusal::NoPlaceLeft,
+        });
     }
     next_serial(state)
 }
@@ -187,7 +193,7 @@ fn request_guard(
     if state.requests.iter().any(shares) && !faults.has(Fault::SharedGuardRequests) {
         return Err(Refusal::GuardRequestPending);
     }
-    let mut serial = next_request(state)?;
+    let mut serial = next_request(state, player, faults)?;
     if faults.has(Fault::GuardRequestResent) {
         serial = abandoned_guard(state, player, range).unwrap_or(serial);
     }
@@ -227,9 +233,14 @@ fn read(
     let live = live_guard(state, player, entry, faults);
     let usable = live.is_some() || faults.has(Fault::CacheHitIgnoresLiveness);
     if cached.guard != 0 && cached.guard == held && usable {
+        if faults.has(Fault::MemoryReadNeedsPlace)
+            && shares::is_turned_away(&state.requests, player, faults)
+        {
+            return Err(Refusal::NoPlaceLeft);
+        }
         return Ok(Reply::new(code::FROM_MEMORY, cached.version, cached.value));
     }
-    let serial = next_request(state)?;
+    let serial = next_request(state, player, faults)?;
     let beside = write_pending(state, player, entry, faults);
     let operation = Operation::Read {
         entry,
@@ -258,7 +269,7 @@ fn write(
         None if faults.has(Fault::UnguardedWrite) => 0,
         None => return Err(Refusal::NoLiveGuard),
     };
-    let serial = next_request(state)?;
+    let serial = next_request(state, player, faults)?;
     if !faults.has(Fault::WriteKeepsCachedValue) {
         state.cached[usize::from(player)][usize::from(entry)] = Cached::EMPTY;
     }
@@ -555,7 +566,7 @@ fn find_interval(state: &mut State, entry: u8, faults: &impl Switches) -> Reply 
 
 /// Document 02 §2: "Kind 15 (entry and value, map 15 hexadecimal) is a load, reply 1: a row of kind 5
 /// whose player is 8, carrying 0, needing no ownership. It is never overlapped and marks no row." So
-/// it is refused for want of a place or a serial alone: 33, then 34.
+/// it is refused for want of a place or a serial alone: 38, then 34.
 fn load(
     state: &mut State,
     entry: u8,
@@ -563,7 +574,7 @@ fn load(
     faults: &impl Switches,
 ) -> Result<Reply, Refusal> {
     mistaken_test(state, entry, faults)?;
-    let serial = next_request(state)?;
+    let serial = next_request(state, LOADER, faults)?;
     let mut operation = Operation::Write {
         entry,
         value,

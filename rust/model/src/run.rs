@@ -24,7 +24,7 @@ pub fn step_tables(
     step: Step,
     faults: &impl Switches,
 ) -> Reply {
-    let mut state = match tables::decode(store, players) {
+    let mut state = match tables::decode_with(store, players, faults) {
         Ok(state) => state,
         Err(error) => return Reply::from(error.refusal()),
     };

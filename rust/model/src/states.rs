@@ -2,9 +2,11 @@
 
 use calls::{Range, Step};
 
+use crate::faults::NoFault;
 use crate::numbers::{BARRED, ENTRIES, LOADER, MAX_REQUESTS, MAX_SERIAL, OPEN, PLAYERS};
 use crate::prng::Prng;
 use crate::rules;
+use crate::shares;
 use crate::state::{Cached, Operation, Request, State};
 use crate::store::{GuardOutcome, Versioned, WriteOutcome};
 
@@ -33,8 +35,8 @@ fn fill_ranges<T: Copy>(rng: &mut Prng, items: &mut [T], mut draw: impl FnMut(&m
     }
 }
 
-/// Any state that keeps the table rules: also such as no list of steps leads to, full places,
-/// serials near the last one, 1 to 256 guard intervals, open and barred ones among them, loads.
+/// Any state that keeps the table rules: also such as no list of steps leads to, all common places
+/// taken, serials near the last one, 1 to 256 guard intervals, open and barred ones among them, loads.
 pub fn any_state(rng: &mut Prng) -> State {
     let last_serial = match rng.below(5) {
         0 => rng.below(4),
@@ -70,12 +72,40 @@ pub fn any_state(rng: &mut Prng) -> State {
             make_live(rng, &mut state, usize::from(entry));
         }
     }
-    let count = [0, 2, 10, MAX_REQUESTS as u32 - 1, MAX_REQUESTS as u32][rng.index(5)];
-    for request in request_serials(rng, count, last_serial) {
-        let request = any_request(rng, request, serial);
+    let count = REQUESTS[rng.index(REQUESTS.len())];
+    let serials = request_serials(rng, count, last_serial);
+    for (own, sender) in serials.iter().zip(senders(rng, serials.len())) {
+        let request = any_request(rng, *own, sender, serial);
         state.requests.push(request);
     }
     state
+}
+
+/// How many requests a state has: with 16 loads, or 22 requests of one player, all common places are taken;
+/// with 64, all places.
+const REQUESTS: [u32; 10] = [0, 2, 10, 16, 21, 22, 40, 63, 64, 64];
+
+/// Senders of so many requests, at most 64, that keep the shares: any, or mostly one of them, or two.
+fn senders(rng: &mut Prng, count: usize) -> Vec<u8> {
+    let any = |rng: &mut Prng| rng.below(u32::from(LOADER) + 1) as u8;
+    let most = [any(rng), any(rng)];
+    let (mostly, two) = ([0, 80, 100][rng.index(3)], rng.index(2));
+    let mut senders: Vec<u8> = Vec::with_capacity(count);
+    let mut counts = [0; PLAYERS + 1];
+    while senders.len() < count {
+        let mut sender = match rng.chance(mostly) {
+            true => most[rng.index(1 + two)],
+            false => any(rng),
+        };
+        // Another one, as the common places are taken: a player that has some of its own left.
+        while shares::is_without_place(&counts, sender, &NoFault) {
+            sender = any(rng);
+        }
+        counts[usize::from(sender)] += 1;
+        senders.push(sender);
+    }
+    rng.shuffle(&mut senders);
+    senders
 }
 
 /// A state that leaves no word unused: every player has a guard and a cached value for every entry, there
@@ -164,7 +194,8 @@ fn request_serials(rng: &mut Prng, count: u32, last_serial: u32) -> Vec<u32> {
     serials
 }
 
-fn any_request(rng: &mut Prng, own: u32, serial: impl Fn(&mut Prng) -> u32) -> Request {
+/// A request of this sender, with this serial of its own.
+fn any_request(rng: &mut Prng, own: u32, player: u8, serial: impl Fn(&mut Prng) -> u32) -> Request {
     let low = rng.below(256);
     let range = Range::new(low as u8, rng.between(low + 1, 256) as u16);
     let [one, other] = COMMON_ENTRIES;
@@ -175,8 +206,14 @@ fn any_request(rng: &mut Prng, own: u32, serial: impl Fn(&mut Prng) -> u32) -> R
     let delivered = rng.chance(50);
     let write_outcome =
         delivered.then_some([WriteOutcome::Committed, WriteOutcome::Rejected][rng.index(2)]);
-    let mut player = rng.below(PLAYERS as u32) as u8;
-    let operation = match rng.below(4) {
+    let operation = match rng.below(3) {
+        _ if player == LOADER => Operation::Write {
+            entry,
+            value: rng.word(),
+            guard: OPEN,
+            overlapped: false,
+            outcome: write_outcome,
+        },
         0 => Operation::Guard {
             range,
             outcome: delivered
@@ -189,16 +226,6 @@ fn any_request(rng: &mut Prng, own: u32, serial: impl Fn(&mut Prng) -> u32) -> R
             overlapped,
             outcome: write_outcome,
         },
-        2 => {
-            player = LOADER;
-            Operation::Write {
-                entry,
-                value: rng.word(),
-                guard: OPEN,
-                overlapped: false,
-                outcome: write_outcome,
-            }
-        }
         _ => Operation::Read {
             entry,
             guard,

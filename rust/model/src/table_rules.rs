@@ -85,11 +85,13 @@ pub enum TableRule {
     LoadGuard,
     /// "It is never overlapped"
     LoadOverlapped,
+    /// Document 02 §5: "Tables breaking these shares are 22."
+    RequestShares,
 }
 
 impl TableRule {
     /// Every rule.
-    pub const ALL: [TableRule; 39] = [
+    pub const ALL: [TableRule; 40] = [
         TableRule::BoundaryBit,
         TableRule::FirstBoundary,
         TableRule::FirstInterval,
@@ -129,6 +131,7 @@ impl TableRule {
         TableRule::LoadKind,
         TableRule::LoadGuard,
         TableRule::LoadOverlapped,
+        TableRule::RequestShares,
     ];
 }
 

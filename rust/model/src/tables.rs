@@ -6,9 +6,11 @@
 
 use calls::Reply;
 
+use crate::faults::{NoFault, Switches};
 use crate::numbers::{BARRED, ENTRIES, MAX_REQUESTS, MAX_SERIAL, NOBODY, PLAYERS};
 use crate::reply::Refusal;
 use crate::request_words::{decode_request, encode_request, RequestWords, REQUEST_WORDS};
+use crate::shares;
 use crate::state::{Cached, Request, State};
 use crate::store::Store;
 use crate::table_rules::{bit, require, TableError, TableRule};
@@ -141,8 +143,13 @@ pub(crate) fn encode_store(store: &Store, words: &mut [u32]) {
     }
 }
 
-/// "up to 64 rows in flight, in rising serial, the used places first".
-fn decode_requests(words: &[u32], last_serial: u32) -> Result<Vec<Request>, TableError> {
+/// "up to 64 rows in flight, in rising serial, the used places first", which keep the shares of document
+/// 02 §5.
+fn decode_requests(
+    words: &[u32],
+    last_serial: u32,
+    faults: &impl Switches,
+) -> Result<Vec<Request>, TableError> {
     let mut requests: Vec<Request> = Vec::new();
     let mut ended = false;
     for place in words.chunks(REQUEST_WORDS) {
@@ -157,11 +164,22 @@ fn decode_requests(words: &[u32], last_serial: u32) -> Result<Vec<Request>, Tabl
         require(rises, TableRule::RequestOrder)?;
         requests.push(decode_request(place, last_serial)?);
     }
+    let kept = shares::are_kept(&requests, faults);
+    require(kept, TableRule::RequestShares)?;
     Ok(requests)
 }
 
 /// The state that the two tables hold: 21 for either, then 22 for either.
 pub fn decode(store: &[u32], players: &[u32]) -> Result<State, TableError> {
+    decode_with(store, players, &NoFault)
+}
+
+/// The same with a fault.
+pub fn decode_with(
+    store: &[u32],
+    players: &[u32],
+    faults: &impl Switches,
+) -> Result<State, TableError> {
     if store.len() != STORE_WORDS || players.len() != PLAYERS_WORDS {
         return Err(TableError::Length);
     }
@@ -186,7 +204,7 @@ pub fn decode(store: &[u32], players: &[u32]) -> Result<State, TableError> {
         epochs: serials(players, EPOCHS, last_serial, TableRule::EpochSerial)?,
         held,
         cached,
-        requests: decode_requests(&players[REQUESTS..], last_serial)?,
+        requests: decode_requests(&players[REQUESTS..], last_serial, faults)?,
     })
 }
 
@@ -274,7 +292,12 @@ pub fn fresh_tables() -> (Vec<u32>, Vec<u32>) {
 
 /// The test of both tables: 0, 21 or 22.
 pub fn check(store: &[u32], players: &[u32]) -> Reply {
-    match decode(store, players) {
+    check_with(store, players, &NoFault)
+}
+
+/// The same with a fault.
+pub fn check_with(store: &[u32], players: &[u32], faults: &impl Switches) -> Reply {
+    match decode_with(store, players, faults) {
         Ok(_) => Reply::DONE,
         Err(error) => Reply::from(error.refusal()),
     }

@@ -24,8 +24,23 @@ pub fn play(steps: &[Step], faults: &impl Switches) -> (Vec<Event>, State) {
 
 /// A random list of steps, each drawn for the state that the earlier ones led to.
 pub fn random_list(rng: &mut Prng, faults: &impl Switches) -> (Vec<Event>, State) {
-    let mut profile = Profile::draw(rng, KINDS);
+    let profile = Profile::draw(rng, KINDS);
     let length = [20, 60, 200][rng.index(3)];
+    list_by(profile, length, rng, faults)
+}
+
+/// The same where some senders take all the places for requests that they may have.
+pub fn crowded_list(rng: &mut Prng, faults: &impl Switches) -> (Vec<Event>, State) {
+    let profile = Profile::crowded(rng, KINDS);
+    list_by(profile, 150, rng, faults)
+}
+
+fn list_by(
+    mut profile: Profile,
+    length: usize,
+    rng: &mut Prng,
+    faults: &impl Switches,
+) -> (Vec<Event>, State) {
     let mut state = State::fresh();
     let mut history = Vec::with_capacity(length);
     for _ in 0..length {

@@ -25,8 +25,8 @@ pub fn request_guard(players: &mut [u32], player: u8, range: Range) -> Reply {
     if scan.hit {
         return Reply::refused(31);
     }
-    if scan.used >= 64 {
-        return Reply::refused(33);
+    if scan.full {
+        return Reply::refused(38);
     }
     let last = players[0];
     if last >= SERIALS {
@@ -55,15 +55,15 @@ pub fn read(players: &mut [u32], player: u8, entry: u8) -> Reply {
     if cells::is_hit(players, player, entry) {
         return Reply::new(2, players[4609 + i], players[6657 + i]);
     }
-    if region::is_full(&players[8705..9473]) {
-        return Reply::refused(33);
+    let scan = region::scan_writes(&players[8705..9473], player, entry);
+    if scan.full {
+        return Reply::refused(38);
     }
     let last = players[0];
     if last >= SERIALS {
         return Reply::refused(34);
     }
     let guard = cells::live_guard(players, player, entry);
-    let scan = region::scan_writes(&players[8705..9473], player, entry);
     let request = Request {
         serial: last + 1,
         player,
@@ -90,15 +90,16 @@ pub fn write(players: &mut [u32], player: u8, entry: u8, value: u32) -> Reply {
     if guard == 0 {
         return Reply::refused(30);
     }
-    if region::is_full(&players[8705..9473]) {
-        return Reply::refused(33);
+    let scan = region::scan_uses(&players[8705..9473], player, entry);
+    if scan.full {
+        return Reply::refused(38);
     }
     let last = players[0];
     if last >= SERIALS {
         return Reply::refused(34);
     }
     cells::cache(players, usize::from(player) * 256 + e, 0, 0, 0);
-    let scan = region::cross(&mut players[8705..9473], player, entry);
+    let crossed = scan.hit && region::cross(&mut players[8705..9473], player, entry);
     let request = Request {
         serial: last + 1,
         player,
@@ -106,7 +107,7 @@ pub fn write(players: &mut [u32], player: u8, entry: u8, value: u32) -> Reply {
         low: entry,
         value,
         guard,
-        overlapped: u8::from(scan.hit),
+        overlapped: u8::from(crossed),
         ..Request::default()
     };
     add(players, scan.used, request);

@@ -21,6 +21,7 @@ mod records;
 mod region;
 mod responding;
 mod run;
+mod shares;
 mod steps;
 mod store;
 mod store_steps;

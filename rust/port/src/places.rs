@@ -2,7 +2,8 @@
 
 use calls::{Range, Request};
 
-use crate::LOADER;
+use crate::words::are_zero;
+use crate::{shares, LOADER};
 
 /// The request of place `k`.
 pub fn request_at(region: &[u32], k: usize) -> Request {
@@ -151,20 +152,20 @@ fn words_fit(words: &[u32]) -> bool {
         & (words[9] <= 1)
 }
 
-/// Whether the 64 places keep the rules.
+/// Whether the 64 places keep the rules, the shares among them.
 pub fn places_hold(region: &[u32], last: u32) -> bool {
     let mut serial = 0;
-    for k in 0..64 {
-        let rest = &region[k * 12..];
-        let next = rest[0];
-        if next == 0 {
-            return crate::words::are_zero(rest);
-        }
-        if next <= serial || !words_fit(&rest[..12]) || !request_holds(request_at(region, k), last)
-        {
+    let mut counts = [0; 9];
+    let mut k = 0;
+    while k < 64 && region[k * 12] != 0 {
+        let words = &region[k * 12..k * 12 + 12];
+        let r = request_at(region, k);
+        if r.serial <= serial || !words_fit(words) || !request_holds(r, last) {
             return false;
         }
-        serial = next;
+        shares::count(&mut counts, r.player);
+        serial = r.serial;
+        k += 1;
     }
-    true
+    are_zero(&region[k * 12..]) && shares::common(&counts) <= 16
 }

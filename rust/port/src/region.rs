@@ -6,14 +6,16 @@ use calls::{Range, Request};
 use crate::places::{
     carry, close, is_requesting, is_using, is_writing, places_hold, put_request, request_at,
 };
+use crate::shares;
 
 const REGION: usize = 768;
 
-/// What a pass over the requests tells: how many there are, and whether one is of the kind that is
-/// looked for.
+/// What a pass over the requests tells: how many there are, whether one is of the kind that is looked for,
+/// and whether the player finds no place for another.
 pub struct Scan {
     pub used: usize,
     pub hit: bool,
+    pub full: bool,
 }
 
 /// Whether a region keeps the rules, where `last` is the last serial issued.
@@ -36,37 +38,33 @@ pub fn find(region: &[u32], serial: u32) -> Option<(usize, Request)> {
     None
 }
 
-fn scan(region: &[u32], test: impl Fn(Request) -> bool) -> Scan {
-    if region.len() != REGION {
-        return Scan {
-            used: 0,
-            hit: false,
-        };
-    }
-    let mut hit = false;
-    for k in 0..64 {
-        if region[k * 12] == 0 {
-            return Scan { used: k, hit };
+fn scan(region: &[u32], player: u8, test: impl Fn(Request) -> bool) -> Scan {
+    let (mut used, mut hit, mut counts) = (0, false, [0; 9]);
+    if region.len() == REGION {
+        while used < 64 && region[used * 12] != 0 {
+            let r = request_at(region, used);
+            hit |= test(r);
+            shares::count(&mut counts, r.player);
+            used += 1;
         }
-        hit |= test(request_at(region, k));
     }
-    Scan { used: 64, hit }
+    let full = shares::are_full(&counts, player);
+    Scan { used, hit, full }
 }
 
-/// How many requests there are, and whether a pending guard request of the player shares an entry
-/// with the range.
+/// Scans for a pending guard request of the player that shares an entry with the range.
 pub fn scan_requests(region: &[u32], player: u8, range: Range) -> Scan {
-    scan(region, |r| is_requesting(r, player, range))
+    scan(region, player, |r| is_requesting(r, player, range))
 }
 
-/// How many requests there are, and whether a write of the player on the entry is pending.
+/// Scans for a pending write of the player on the entry.
 pub fn scan_writes(region: &[u32], player: u8, entry: u8) -> Scan {
-    scan(region, |r| is_writing(r, player, entry))
+    scan(region, player, |r| is_writing(r, player, entry))
 }
 
-/// Whether the last place is used.
-pub fn is_full(region: &[u32]) -> bool {
-    region.len() == REGION && region[756] != 0
+/// Scans for a pending read or write of the player on the entry.
+pub fn scan_uses(region: &[u32], player: u8, entry: u8) -> Scan {
+    scan(region, player, |r| is_using(r, player, entry))
 }
 
 /// Makes place `k` hold `r`.
@@ -99,27 +97,21 @@ pub fn remove(region: &mut [u32], k: usize) {
     }
 }
 
-/// Marks the player's pending reads and writes on the entry as overlapped, as [`scan_writes`]
-/// passes over them.
-pub fn cross(region: &mut [u32], player: u8, entry: u8) -> Scan {
-    if region.len() != REGION {
-        return Scan {
-            used: 0,
-            hit: false,
-        };
-    }
-    let mut hit = false;
-    for k in 0..64 {
-        if region[k * 12] == 0 {
-            return Scan { used: k, hit };
-        }
-        let r = request_at(region, k);
-        hit |= is_writing(r, player, entry);
-        if is_using(r, player, entry) {
-            region[k * 12 + 7] = 1;
+/// Marks the player's pending reads and writes on the entry as overlapped. Whether a write was among them.
+pub fn cross(region: &mut [u32], player: u8, entry: u8) -> bool {
+    let mut crossed = false;
+    if region.len() == REGION {
+        let mut k = 0;
+        while k < 64 && region[k * 12] != 0 {
+            let r = request_at(region, k);
+            if is_using(r, player, entry) {
+                crossed |= r.kind == 5;
+                region[k * 12 + 7] = 1;
+            }
+            k += 1;
         }
     }
-    Scan { used: 64, hit }
+    crossed
 }
 
 /// Gives up the player's pending requests: those delivered leave, the others are abandoned.

@@ -160,7 +160,7 @@ impl Default for Tables {
 #[cfg(test)]
 mod tests {
     use super::*;
-    use crate::{Range, Session, Why, PREVIEW_RECORDS};
+    use crate::{Range, Session, Why, COMMON_PLACES, OWN_PLACES, PREVIEW_RECORDS};
 
     fn stopped(why: Why, records: u32, place: u32) -> Report {
         Report {
@@ -571,7 +571,16 @@ mod tests {
                 }
             }
         }
-        for code in [26, 27, 28, 29, 30, 31, 32, 35] {
+        // one request more than a player may have
+        let read = Fields {
+            kind: 4,
+            entry: 200,
+            ..Fields::default()
+        };
+        for _ in 0..OWN_PLACES + COMMON_PLACES + 1 {
+            take(&mut owned, read);
+        }
+        for code in [26, 27, 28, 29, 30, 31, 32, 35, 38] {
             assert!(codes[code], "{code} was not seen");
         }
 

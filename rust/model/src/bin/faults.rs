@@ -7,7 +7,7 @@ use model::codec::session_text;
 use model::faults::{Fault, NoFault};
 use model::trial::search;
 
-/// The seed with which all are found within 3,200,000 steps; another one as the first argument.
+/// The seed with which all are found within 1,900,000 steps; another one as the first argument.
 const SEED: u64 = 1;
 
 fn main() -> ExitCode {

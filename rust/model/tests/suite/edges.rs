@@ -100,15 +100,16 @@ fn no_serial_left() {
     assert_eq!(rules::step(&mut state, assign(0, 0, 1)), refused(34));
 }
 
-/// "The 65th row: 33; give up and lose one, then it goes in."
+/// "The 65th row: 33; give up and lose one, then it goes in." Document 02 §5: "The case of the 65th row
+/// becomes one player's 23rd, with 38."
 #[test]
 fn no_place_left() {
-    let mut steps = vec![read(0, 0); 65];
-    assert_eq!(replies(&steps)[63], reply(1, 64, 0));
-    assert_eq!(last_reply(&steps), refused(33));
-    steps.extend([abandon(9), lose(9), read(0, 0)]);
+    let mut steps = vec![read(0, 0); 23];
+    assert_eq!(replies(&steps)[21], reply(1, 22, 0));
+    assert_eq!(last_reply(&steps), refused(38));
+    steps.extend([abandon(9), read(0, 0), lose(9), read(0, 0)]);
     assert_eq!(
-        replies(&steps)[65..],
-        [reply(0, 0, 0), reply(0, 0, 0), reply(1, 65, 0)]
+        replies(&steps)[23..],
+        [reply(0, 0, 0), refused(38), reply(0, 0, 0), reply(1, 23, 0)]
     );
 }

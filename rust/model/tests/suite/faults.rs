@@ -2,6 +2,7 @@
 //! comparison with the right rules.
 
 use calls::{Range, Reply, Step, KINDS};
+use model::broken::{crowded, Crowd};
 use model::claim::Sentence;
 use model::codec::session_text;
 use model::faults::{Fault, NoFault};
@@ -11,13 +12,13 @@ use model::prng::Prng;
 use model::rules::{step, step_with};
 use model::state::State;
 use model::store_calls;
-use model::tables::{tables_of, STORE_WORDS};
+use model::tables::{check_with, fresh_tables, tables_of, REQUESTS, STORE_WORDS};
 use model::trial::{play, search};
 
 use crate::support::*;
 
 /// The seed of the random lists: `FAMDRIZE_SEED`, 1 if not set. With 1 every fault that breaks
-/// demand 3 is found within 3,200,000 steps, all but the rarest within 800,000.
+/// demand 3 is found within 1,900,000 steps, all but the rarest within 400,000.
 fn seed() -> u64 {
     std::env::var("FAMDRIZE_SEED")
         .ok()
@@ -50,10 +51,17 @@ fn caught_by_demand_3() {
 fn caught_by_comparison_only() {
     for fault in Fault::ALL.into_iter().filter(|f| !f.breaks_demand_3()) {
         assert!(search(seed(), 200_000 * scale(), &fault).is_none());
-        // Only the store used alone shows the first two, and only tables without a serial left the third.
+        // Only the store used alone shows the first two, only tables without a serial left the next two, and
+        // only the test of tables the last three.
         if matches!(
             fault,
-            Fault::BarredMatches | Fault::IntervalWithoutGuard | Fault::LoadSerialFirst
+            Fault::BarredMatches
+                | Fault::IntervalWithoutGuard
+                | Fault::LoadSerialFirst
+                | Fault::SerialBeforePlace
+                | Fault::SharesUntested
+                | Fault::FullSharesRefused
+                | Fault::SharesOfPendingAlone
         ) {
             continue;
         }
@@ -62,12 +70,16 @@ fn caught_by_comparison_only() {
     }
 }
 
-/// Plays random lists by the right rules and with the fault, until a reply or the state differs.
+/// Plays random lists by the right rules and with the fault, every second one such as crowds the places for
+/// requests, until a reply or the state differs.
 fn differs_after(fault: Fault) -> Option<usize> {
     let mut rng = Prng::new(seed());
     let mut played = 0;
     while played < 1_000_000 {
-        let mut profile = Profile::draw(&mut rng, KINDS);
+        let mut profile = match played / 100 % 2 {
+            0 => Profile::draw(&mut rng, KINDS),
+            _ => Profile::crowded(&mut rng, KINDS),
+        };
         let (mut right, mut wrong) = (State::fresh(), State::fresh());
         for _ in 0..100 {
             let next = profile.next_step(&mut rng, &right);
@@ -201,11 +213,195 @@ fn mistaken_loads() {
     let expected = [(3, true), (4, false)];
     assert_eq!(marked(Fault::WriteMarksLoads, &steps), expected);
     // And one takes another refusal, of two that apply.
-    let mut full = state_after(&vec![load(9, 5); 64]);
+    let mut full = state_after(&[load(9, 5); 16]);
     full.last_serial = MAX_SERIAL;
-    assert_eq!(step(&mut full, load(9, 5)), refused(33));
+    assert_eq!(step(&mut full, load(9, 5)), refused(38));
     let given = step_with(&mut full, load(9, 5), &Fault::LoadSerialFirst);
     assert_eq!(given, refused(34));
+}
+
+/// The faults of §5 that a list of steps shows: the reply to its last step by the right rules, and with the
+/// fault. Reads and loads are of entry 9, and the first request has serial 1.
+#[test]
+fn mistaken_shares() {
+    let reads = |player: u8, count: usize| vec![read(player, 9); count];
+    let loads = |count: usize| vec![load(9, 5); count];
+    let each = |serials: std::ops::RangeInclusive<u32>, step: fn(u32) -> Step| {
+        Vec::from_iter(serials.map(step))
+    };
+    let let_in = |serial: u32| reply(1, serial, 0);
+    // Steps, how the right rules reply to the last one, and how with the fault.
+    let cases: [(Fault, Vec<Step>, Reply, Reply); 21] = [
+        (
+            Fault::AbandonedUncounted,
+            [reads(0, 22), vec![abandon(9)], reads(0, 1)].concat(),
+            refused(38),
+            let_in(23),
+        ),
+        // Of the player's own 6 as well.
+        (
+            Fault::AbandonedUncounted,
+            [reads(0, 6), loads(16), vec![abandon(1)], reads(0, 1)].concat(),
+            refused(38),
+            let_in(23),
+        ),
+        (
+            Fault::DeliveredUncounted,
+            [reads(0, 22), vec![deliver(9)], reads(0, 1)].concat(),
+            refused(38),
+            let_in(23),
+        ),
+        (
+            Fault::OnlyUnderwayCounted,
+            [loads(16), vec![deliver(9)], loads(1)].concat(),
+            refused(38),
+            let_in(17),
+        ),
+        (
+            Fault::OnlyUnderwayCounted,
+            [loads(16), each(1..=8, abandon), loads(1)].concat(),
+            refused(38),
+            let_in(17),
+        ),
+        (
+            Fault::LoaderHasOwnPlaces,
+            loads(17),
+            refused(38),
+            let_in(17),
+        ),
+        (
+            Fault::LoaderHasOwnPlaces,
+            [reads(0, 22), loads(1)].concat(),
+            refused(38),
+            let_in(23),
+        ),
+        (
+            Fault::LoadsUncounted,
+            [loads(16), reads(0, 7)].concat(),
+            refused(38),
+            let_in(23),
+        ),
+        (
+            Fault::OthersUncounted,
+            [reads(0, 22), reads(1, 7)].concat(),
+            refused(38),
+            let_in(29),
+        ),
+        (
+            Fault::OthersUncounted,
+            [reads(0, 22), loads(1)].concat(),
+            refused(38),
+            let_in(23),
+        ),
+        (
+            Fault::SeventeenthLetIn,
+            reads(0, 23),
+            refused(38),
+            let_in(23),
+        ),
+        (Fault::SeventeenthLetIn, loads(17), refused(38), let_in(17)),
+        (
+            Fault::SixteenthTurnedAway,
+            reads(0, 22),
+            let_in(22),
+            refused(38),
+        ),
+        (
+            Fault::SixteenthTurnedAway,
+            loads(16),
+            let_in(16),
+            refused(38),
+        ),
+        (
+            Fault::SixthTurnedAway,
+            [reads(0, 22), reads(1, 6)].concat(),
+            let_in(28),
+            refused(38),
+        ),
+        (
+            Fault::SevenOwnPlaces,
+            [loads(16), reads(1, 7)].concat(),
+            refused(38),
+            let_in(23),
+        ),
+        (
+            Fault::AllTurnedAway,
+            [reads(0, 22), reads(1, 1)].concat(),
+            let_in(23),
+            refused(38),
+        ),
+        (Fault::OwnPlacesAlone, reads(0, 7), let_in(7), refused(38)),
+        (Fault::OwnPlacesAlone, loads(1), let_in(1), refused(38)),
+        (Fault::NoShares, reads(0, 23), refused(38), let_in(23)),
+        (Fault::OldNumber, reads(0, 23), refused(38), refused(33)),
+    ];
+    for (fault, steps, right, wrong) in cases {
+        assert!(!fault.breaks_demand_3());
+        assert_eq!(last_reply(&steps), right, "{fault:?}");
+        let (history, state) = play(&steps, &fault);
+        assert_eq!(history[steps.len() - 1].reply, wrong, "{fault:?}");
+        assert_eq!(model::claim::check(&history, &state.store), Ok(()));
+    }
+    // Player 0 has entry 45 in its memory, and 22 requests.
+    let remembered = then(&[read(0, 45), deliver(3), respond(3)]);
+    let mut full = state_after(&[remembered, reads(0, 22)].concat());
+    assert_eq!(step(&mut full, read(0, 45)), reply(2, 0, 0));
+    let given = step_with(&mut full, read(0, 45), &Fault::MemoryReadNeedsPlace);
+    assert_eq!(given, refused(38));
+    // No serial is left: two refusals apply.
+    full.last_serial = MAX_SERIAL;
+    for next in [read(0, 9), write(0, 46, 7), ask(0, 40, 60)] {
+        assert_eq!(step(&mut full, next), refused(38));
+        let given = step_with(&mut full, next, &Fault::SerialBeforePlace);
+        assert_eq!(given, refused(34));
+    }
+}
+
+/// The faults of §5 in the test of the tables: 22 requests of player 0 and 23, with and without one that is
+/// given up, by hand; and any tables with 16 and with 17 common places in use.
+#[test]
+fn mistaken_shares_of_tables() {
+    let tables = |requests: usize, abandoned: u32| {
+        let (store, mut players) = fresh_tables();
+        players[0] = 23;
+        let places = players[REQUESTS..].chunks_exact_mut(12);
+        for (serial, place) in (1..).zip(places.take(requests)) {
+            let mark = u32::from(serial == abandoned);
+            place.copy_from_slice(&[serial, 0, 4, 9, 0, 0, 0, 0, 0, mark, 0, 0]);
+        }
+        (store, players)
+    };
+    // The fault, and what it gives for 22, 23, and 23 of which one is given up.
+    let cases = [
+        (None, [0, 22, 22]),
+        (Some(Fault::SharesUntested), [0, 0, 0]),
+        (Some(Fault::FullSharesRefused), [22, 22, 22]),
+        (Some(Fault::SharesOfPendingAlone), [0, 22, 0]),
+    ];
+    for (fault, expected) in cases {
+        let given = [(22, 0), (23, 0), (23, 9)].map(|(requests, abandoned)| {
+            let (store, players) = tables(requests, abandoned);
+            check_with(&store, &players, &fault).code
+        });
+        assert_eq!(given, expected, "{fault:?}");
+    }
+    let mut rng = Prng::new(seed());
+    for crowd in Crowd::ALL {
+        let abandoned = matches!(crowd, Crowd::PlayerAbandoned | Crowd::LoaderAbandoned);
+        for (fault, common, wrong) in [
+            (Fault::SharesUntested, 17, 0),
+            (Fault::FullSharesRefused, 16, 22),
+            (
+                Fault::SharesOfPendingAlone,
+                17,
+                if abandoned { 0 } else { 22 },
+            ),
+        ] {
+            let (store, players) = crowded(&mut rng, crowd, common);
+            let given = check_with(&store, &players, &fault).code;
+            assert_eq!(given, wrong, "{fault:?}, {crowd:?}");
+        }
+    }
 }
 
 /// The faults of §2 that demand 3 sees, each on a list worked out by hand.

@@ -121,11 +121,11 @@ fn nothing_is_altered() {
         assert_eq!(state, before);
     }
     assert_eq!(rules::step(&mut state, assign(0, 0, 1)), reply(1, 5, 0));
-    for _ in 0..62 {
+    for _ in 0..20 {
         assert_eq!(rules::step(&mut state, read(0, 50)).code, 1);
     }
     state.last_serial = MAX_SERIAL;
-    assert_eq!(rules::step(&mut state, read(0, 50)), refused(33));
+    assert_eq!(rules::step(&mut state, read(0, 50)), refused(38));
     assert_eq!(rules::step(&mut state, assign(0, 0, 1)), refused(34));
     let before = state.clone();
     let given = rules::step(&mut state, find_interval(45));

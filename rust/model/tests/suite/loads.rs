@@ -101,11 +101,11 @@ fn any_entry_may_be_loaded() {
     assert!(state.requests[0].is_pending());
 }
 
-/// 33, then 34, and no other.
+/// 38, then 34, and no other: the loader has the 16 common places alone.
 #[test]
 fn refusals() {
     let mut state = State::fresh();
-    for serial in 1..=63 {
+    for serial in 1..=15 {
         assert_eq!(rules::step(&mut state, load(9, 1)), reply(1, serial, 0));
     }
     let mut one_left = state.clone();
@@ -115,10 +115,14 @@ fn refusals() {
     assert_eq!(one_left, before);
     one_left.last_serial = MAX_SERIAL - 1;
     let given = taken(&mut one_left, &[load(9, 1), load(9, 1)]);
-    assert_eq!(given, [reply(1, 4_000_000, 0), refused(33)]);
-    assert_eq!(rules::step(&mut state, load(9, 1)), reply(1, 64, 0));
-    assert_eq!(rules::step(&mut state, load(9, 1)), refused(33));
-    assert_eq!(rules::step(&mut state, read(0, 9)), refused(33));
+    assert_eq!(given, [reply(1, 4_000_000, 0), refused(38)]);
+    assert_eq!(rules::step(&mut state, load(9, 1)), reply(1, 16, 0));
+    assert_eq!(rules::step(&mut state, load(9, 1)), refused(38));
+    // A player has places of its own.
+    for serial in 17..=22 {
+        assert_eq!(rules::step(&mut state, read(0, 9)), reply(1, serial, 0));
+    }
+    assert_eq!(rules::step(&mut state, read(0, 9)), refused(38));
 }
 
 /// "It is never overlapped and marks no row": before and after it, a read, a write, another load.

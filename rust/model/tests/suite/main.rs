@@ -11,6 +11,7 @@ mod loads;
 mod previews;
 mod random;
 mod run;
+mod shares;
 mod shrink;
 mod steps;
 mod store;

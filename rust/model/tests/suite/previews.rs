@@ -63,8 +63,8 @@ fn every_kind() {
     }
 }
 
-/// "For a step: 21, 22, 28, 29, 30, 31, 32, 35, 33, 34.": also those of the tables, and of a place and a
-/// serial, which a preview does not take.
+/// "For a step: 21, 22, 28, 29, 30, 31, 32, 35, 33, 34.", 38 in 33's place: also those of the tables, and of
+/// a place and a serial, which a preview does not take.
 #[test]
 fn tables_places_and_serials() {
     let given = |store: &[u32], players: &[u32]| {
@@ -75,16 +75,16 @@ fn tables_places_and_serials() {
     assert_eq!(given(&store[1..], &players), [refused(21); 2]);
     assert_eq!(given(&store, &players[1..]), [refused(21); 2]);
     assert_eq!(given(&store, &players), [refused(22); 2]);
-    let mut state = state_after(&[read(0, 9); 63]);
+    let mut state = state_after(&[read(0, 9); 21]);
     let of = |state: &State| {
         let (store, players) = tables_of(state);
         given(&store, &players)
     };
-    assert_eq!(of(&state), [refused(28), reply(1, 64, 0)]);
+    assert_eq!(of(&state), [refused(28), reply(1, 22, 0)]);
     state.last_serial = MAX_SERIAL;
     assert_eq!(of(&state), [refused(28), refused(34)]);
-    let full = state_after(&[read(0, 9); 64]);
-    assert_eq!(of(&full), [refused(28), refused(33)]);
+    let full = state_after(&[read(0, 9); 22]);
+    assert_eq!(of(&full), [refused(28), refused(38)]);
 }
 
 /// A preview has the faults that the step has.

@@ -87,13 +87,14 @@ fn read_from_memory_when_full() {
     assert_eq!(rules::step(&mut state, read(0, 45)), reply(2, 0, 0));
     assert_eq!(rules::step(&mut state, read(0, 46)), refused(34));
     state.last_serial = 3;
-    for serial in 4..68 {
+    for serial in 4..26 {
         assert_eq!(rules::step(&mut state, read(0, 46)), reply(1, serial, 0));
     }
     assert_eq!(rules::step(&mut state, read(0, 45)), reply(2, 0, 0));
-    assert_eq!(rules::step(&mut state, read(0, 46)), refused(33));
+    assert_eq!(rules::step(&mut state, read(0, 46)), refused(38));
     state.last_serial = MAX_SERIAL;
-    assert_eq!(rules::step(&mut state, read(0, 46)), refused(33), "33, 34");
+    assert_eq!(rules::step(&mut state, read(0, 45)), reply(2, 0, 0));
+    assert_eq!(rules::step(&mut state, read(0, 46)), refused(38), "38, 34");
 }
 
 /// "overlapped if a write by this player on this entry waits". Reading 10: also a delivered one.
@@ -146,7 +147,7 @@ fn write_marks() {
     assert_eq!(marks(&state_after(&steps)), [(2, true), (4, false)]);
 }
 
-/// "5 write: needs ownership and a live guard": 29, then 30; then 33, 34.
+/// "5 write: needs ownership and a live guard": 29, then 30; then 38, 34.
 #[test]
 fn write_refusals() {
     let mut state = state_after(&guarded());
@@ -375,14 +376,15 @@ fn player_restarts() {
     assert_eq!(last_reply(&[restart_player(8)]), refused(28));
 }
 
-/// "For a step: 21, 22, 28, 29, 30, 31, 32, 35, 33, 34": 28 before 29, 29 before 31, 31 before 33,
-/// 33 before 34.
+/// "For a step: 21, 22, 28, 29, 30, 31, 32, 35, 33, 34", where 38 "takes 33's place": 28 before 29, 29
+/// before 30 and 31, these before 38, 38 before 34.
 #[test]
 fn refusal_order() {
     let mut state = state_after(&[assign(0, 0, 20), ask(0, 5, 10)]);
-    for _ in 0..63 {
-        rules::step(&mut state, read(0, 50));
+    for _ in 0..21 {
+        assert_eq!(rules::step(&mut state, read(0, 50)).code, 1);
     }
+    state.held[0][0] = 2;
     state.last_serial = MAX_SERIAL;
     let before = state.clone();
     let given = [
@@ -390,13 +392,19 @@ fn refusal_order() {
         (ask(1, 5, 10), 29),
         (ask(0, 5, 21), 29),
         (ask(0, 5, 10), 31),
-        (ask(0, 10, 20), 33),
+        (ask(0, 10, 20), 38),
+        (write(8, 0, 7), 28),
+        (write(0, 20, 7), 29),
+        (write(0, 1, 7), 30),
+        (write(0, 0, 7), 38),
+        (load(0, 7), 38),
+        (read(1, 0), 34),
         (assign(0, 0, 1), 34),
         (release(0, 1), 34),
         (release(1, 1), 28),
         (release(0, 257), 28),
         (read(8, 0), 28),
-        (read(0, 0), 33),
+        (read(0, 0), 38),
         (merge(0), 28),
         (merge(1), 35),
         (lose(1), 32),
