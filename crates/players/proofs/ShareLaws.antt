@@ -7,11 +7,12 @@ use mathlib.Core.List.{List, map}
 use Prim.Native.Nat.{ℕ, _≤_, _<_}
 use native.Mathlib.Omega.{arith}
 use borrow.Author.Tests.{leb-true}
-use lib.Dec.{leb}
+use lib.Dec.{T, leb}
+use lib.ListN.{length}
 use Rattle.store.specs.Model.{serials, bad-range}
 use Rattle.store.specs.declared.Range.{Range}
 use Rattle.requests.specs.declared.Request.{Request}
-use Rattle.requests.specs.Model.{loader, any, requesting, by, pending, serial-is, using-entry, keep, drop-request, change-request, mark-overlapped, mark-delivered, mark-abandoned}
+use Rattle.requests.specs.Model.{places, loader, any, requesting, by, pending, serial-is, using-entry, keep, drop-request, change-request, mark-overlapped, mark-delivered, mark-abandoned}
 use Rattle.requests.specs.Shares.{own-places, common-places, count-by, common-used, no-place}
 use Rattle.requests.proofs.Basics.{both-left, both-right, cond-elim}
 use Rattle.requests.proofs.ShareLaws.{Shares, NoMore, keep-no-more, choice-count, changed-count, common-no-more, as-many-shares, own-place-left, appended-shares}
@@ -19,6 +20,10 @@ use Rattle.players.specs.declared.Step.{Step}
 use Rattle.players.specs.declared.Step.the-variants.{RequestGuard, Read, Write, Load}
 use Rattle.players.specs.Replies.{out-of-range, not-owner, no-live-guard, already-requested, no-place-left, no-serial-left}
 use Rattle.players.specs.Rules.{State, Result, check, need-place, need-serial, players, all-entries, owns, live, cache-hit, read-from-cache, request-guard, read-from-store, write, load, step}
+use Rattle.players.specs.Table.{stateOf, valid}
+use Rattle.players.specs.Calls.{Done, whole, called}
+use Rattle.players.proofs.Tables.{few-requests, ok-tables}
+use Rattle.players.proofs.CheckLaws.{store-long, players-long}
 use Rattle.players.proofs.StepFacts.{check-elim}
 use Rattle.players.proofs.StepCases.{ByCase, step-elim}
 
@@ -136,3 +141,17 @@ module _ (s : State) where
       either : (b : Bool) → leb loader p ≡ b → (b || leb own-places (count-by p (s .requests))) ≡ true → (loader ≤ p) ⊎ (own-places ≤ count-by p (s .requests))
       either true u t = inl (leb-true loader p u)
       either false u t = inr (leb-true own-places (count-by p (s .requests)) t)
+
+-- ---- of tables, by the calls' contract
+
+module _ (st t : List ℕ) where
+  -- of any two tables that are lent
+  pub call-never-turned-away : {x : Step} {p : ℕ} → Asks x p → p < loader → count-by p (stateOf st t .requests) < own-places → called (λ s. step s x) st t .reply .code ≢ no-place-left
+  call-never-turned-away {x} {p} a lt h =
+      cond-elim (λ (d : Done). d .reply .code ≢ no-place-left) (whole st t) _ _
+      (λ _. cond-elim (λ (d : Done). d .reply .code ≢ no-place-left) (valid st t) _ _ (λ _. never-turned-away (stateOf st t) a lt h) (λ _. omega arith))
+      (λ _. omega arith)
+
+  -- of those that keep the rules: the shares are kept, and that no more than 64 requests are in flight follows from them
+  pub tables-shared : T (valid st t) → whole st t ≡ true → Shares (stateOf st t .requests) × (length (stateOf st t .requests) ≤ places)
+  tables-shared v w = let k = ok-tables st t v (store-long st t w) (players-long st t w) in (k .shares, few-requests k)
