@@ -198,14 +198,14 @@ pub fn cross(region: &mut [u32], player: u8, entry: u8) -> bool
     if region.len() != layout::WORDS {
         return false;
     }
-    let mut hit = false;
+    let mut wrote = false;
     let mut k = 0;
     while places::is_used(region, k) {
-        hit = tests::either(hit, tests::is_writing(region, k, player, entry));
+        wrote = tests::either(wrote, tests::is_writing(region, k, player, entry));
         places::overlap(region, k, player, entry);
         k += 1;
     }
-    hit
+    wrote
 }
 
 // Gives up the player's pending requests: those delivered leave, the others are abandoned.

@@ -14,14 +14,14 @@ use Rattle.requests.proofs.region.cross.Statement.{statement}
 use Rattle.requests.proofs.region.cross.Tie as tie
 
 abbrev Inv-loop : tie.InvT-loop
-Inv-loop region₀ player entry hit₀ k₀ region hit k =
+Inv-loop region₀ player entry wrote₀ k₀ region wrote k =
     (k ≤ 64)
     × (length region ≡ 768)
-    × (told-at (writing player entry) region k hit ≡ any (writing player entry) (requestsOf region₀))
+    × (told-at (writing player entry) region k wrote ≡ any (writing player entry) (requestsOf region₀))
     × (words-at (using-entry player entry) k region ≡ overlapped-from (using-entry player entry) 64 region₀)
 
 abbrev μ-loop : tie.MeasureT-loop
-μ-loop region₀ player entry hit₀ k₀ region hit k = 64 - k
+μ-loop region₀ player entry wrote₀ k₀ region wrote k = 64 - k
 
 returns : tie.Need-returns Inv-loop μ-loop
 returns c =
@@ -78,7 +78,7 @@ loop-again c =
     let r = requestAt (l .region) (l .k) in (
       omega (arith, h .0),
       o .overlap .kept .0 ∙ l .inv .1,
-      sym (told-on f (l .region) (l .k) (l .hit) (h .0) (h .1) r refl _ (e .either .ensures ∙ ap (λ (b : Bool). l .hit || b) (w .is-writing .ensures)) _ (after-place g (l .region) (l .k) (h .0) _ _ refl (o .overlap .ensures))) ∙ l .inv .2,
+      sym (told-on f (l .region) (l .k) (l .wrote) (h .0) (h .1) r refl _ (e .either .ensures ∙ ap (λ (b : Bool). l .wrote || b) (w .is-writing .ensures)) _ (after-place g (l .region) (l .k) (h .0) _ _ refl (o .overlap .ensures))) ∙ l .inv .2,
       sym (words-on g (l .region) (l .k) (h .0) _ _ refl (o .overlap .ensures) (h .1)) ∙ l .inv .3,
     )
 
@@ -95,7 +95,7 @@ returns-2 c =
     let a = e .before .before .args in
     let n = sym (u .is-used .ensures) ∙ c .if2 .left in
     cross-done (a .player) (a .entry) (a .region .now) (e .if1 .left) _ _
-    (told-end (writing (a .player) (a .entry)) (l .region) (l .k) (l .hit) (from-none (l .region) (l .k) n) ∙ l .inv .2)
+    (told-end (writing (a .player) (a .entry)) (l .region) (l .k) (l .wrote) (from-none (l .region) (l .k) n) ∙ l .inv .2)
     (sym (words-none (using-entry (a .player) (a .entry)) (l .region) (l .k) n) ∙ l .inv .3)
 
 pub cross-spec : {M : Type 1} → statement M
