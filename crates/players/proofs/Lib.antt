@@ -11,5 +11,6 @@ pub mod KindLaws
 pub mod CallLaws
 pub mod IntervalLaws
 pub mod LoadLaws
+pub mod ShareLaws
 pub mod Refusals
 pub mod PlayedLaws

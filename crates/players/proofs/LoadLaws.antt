@@ -8,13 +8,13 @@ use Prim.Native.Nat.{ℕ, _+_, _-_, _≤_, _<_}
 use native.Mathlib.Omega.{arith}
 use borrow.Author.Tests.{eq-eqb, ne-eqb, lt-leb, eqb-true, eqb-false}
 use lib.Dec.{T, leb, eqb}
-use lib.ListN.{length}
 use Rattle.store.specs.Model.{serials, open-guard, barred, within, tablet-first, tablet-end}
 use Rattle.store.proofs.GuardChanges.{restart-inside}
 use Rattle.requests.specs.declared.Request.{Request}
 use Rattle.requests.specs.declared.Fit.{Fit}
 use Rattle.requests.specs.declared.Fit.the-variants.{Answerable, Pending}
-use Rattle.requests.specs.Model.{places, loader, by, pending, is-guard-request, is-load, is-read, is-write, named, new-request, fits, serial-is, writing, using-entry, mark-overlapped, any, keep, find}
+use Rattle.requests.specs.Shares.{no-place}
+use Rattle.requests.specs.Model.{loader, by, pending, is-guard-request, is-load, is-read, is-write, named, new-request, fits, serial-is, writing, using-entry, mark-overlapped, any, keep, find}
 use Rattle.requests.specs.Region.{request-holds}
 use Rattle.requests.proofs.Basics.{decide, both-left, cond-elim}
 use Rattle.requests.proofs.Rising.{In, here, there, each-at, same-request}
@@ -43,14 +43,14 @@ pub record Loaded (s : State) (e v : ℕ) (r : Result) : Type 0 where
   pub untouched : Untouched s (r .state)
 
 -- ‘needing no ownership’: a place and a serial are enough
-pub load-taken : (s : State) (e v : ℕ) → PlaceLeft s → Loaded s e v (step s (Load e v))
+pub load-taken : (s : State) (e v : ℕ) → PlaceLeft s loader → Loaded s e v (step s (Load e v))
 load-taken s e v w =
-    rw (lt-leb places (length (s .requests)) (w .place), lt-leb serials (s .last) (w .serial)) (record { reply = refl; requests = refl; untouched = record { store = refl; owners = refl; player = refl } })
+    rw (w .place, lt-leb serials (s .last) (w .serial)) (record { reply = refl; requests = refl; untouched = record { store = refl; owners = refl; player = refl } })
 
 -- and only for want of them is it refused
 pub load-refused : (s : State) (e v : ℕ) → let c = step s (Load e v) .reply .code in first-refusal ≤ c → (c ≡ no-place-left) ⊎ (c ≡ no-serial-left)
 load-refused s e v =
-    check-elim Refused s (leb places (length (s .requests))) no-place-left (need-serial s (load s e v)) (λ _. inl refl)
+    check-elim Refused s (no-place loader (s .requests)) no-place-left (need-serial s (load s e v)) (λ _. inl refl)
     (λ _. check-elim Refused s (leb serials (s .last)) no-serial-left (load s e v) (λ _. inr refl) (λ _ h. absurd (omega arith)))
   where
     Refused : Result → Type 0
@@ -92,17 +92,17 @@ writing-past p e lt (r ∷ rs) =
     (decide (is-load r))
 
 -- a read is not overlapped for a load's sake
-pub read-past-loads : (s : State) (p e : ℕ) → p < players → PlaceLeft s → cache-hit s p e ≡ false
+pub read-past-loads : (s : State) (p e : ℕ) → p < players → PlaceLeft s p → cache-hit s p e ≡ false
     → step s (Read p e) .state .requests ≡ s .requests ++ (new-request (s .last + 1) p 4 e 0 0 (cond (live s p e) (s .player p .held e) 0) (any (writing p e) (no-loads (s .requests))) ∷ [])
 read-past-loads s p e lt w h =
-    rw (lt-leb players p lt, h, lt-leb places (length (s .requests)) (w .place), lt-leb serials (s .last) (w .serial), ← writing-past p e lt (s .requests))
+    rw (w .place, lt-leb players p lt, h, lt-leb serials (s .last) (w .serial), ← writing-past p e lt (s .requests))
 
 -- nor is a write, and it marks none
-pub write-past-loads : (s : State) (p e v : ℕ) → p < players → PlaceLeft s → owns s p e ≡ true → live s p e ≡ true
+pub write-past-loads : (s : State) (p e v : ℕ) → p < players → PlaceLeft s p → owns s p e ≡ true → live s p e ≡ true
     → step s (Write p e v) .state .requests
     ≡ map (λ r. cond (not (is-load r) && using-entry p e r) (mark-overlapped r) r) (s .requests) ++ (new-request (s .last + 1) p 5 e 0 v (s .player p .held e) (any (writing p e) (no-loads (s .requests))) ∷ [])
 write-past-loads s p e v lt w o l =
-    rw (lt-leb players p lt, l, o, lt-leb places (length (s .requests)) (w .place), lt-leb serials (s .last) (w .serial), ← writing-past p e lt (s .requests))
+    rw (w .place, lt-leb players p lt, l, o, lt-leb serials (s .last) (w .serial), ← writing-past p e lt (s .requests))
     (ap (λ (l : List Request). l ++ (new-request (s .last + 1) p 5 e 0 v (s .player p .held e) (any (writing p e) (s .requests)) ∷ [])) (marked-past (s .requests)))
   where
     unmarked-load : (r : Request) → using-entry p e r ≡ (not (is-load r) && using-entry p e r)

@@ -8,11 +8,11 @@ use Prim.Native.Nat.{ℕ, zero, suc, _+_, _-_, _≤_, _<_}
 use native.Mathlib.Omega.{arith}
 use borrow.Author.Tests.{leb-true, leb-false, ltb-true, eqb-true, eqb-false, not-true, not-false}
 use lib.Dec.{leb, ltb, eqb}
-use lib.ListN.{length}
 use Rattle.store.specs.Model.{Store, entries, serials, bad-range}
 use Rattle.store.specs.declared.Range.{Range}
 use Rattle.requests.specs.declared.Request.{Request}
-use Rattle.requests.specs.Model.{places, drop-request, change-request, mark-delivered, mark-abandoned}
+use Rattle.requests.specs.Shares.{no-place}
+use Rattle.requests.specs.Model.{drop-request, change-request, mark-delivered, mark-abandoned}
 use Rattle.players.specs.Replies.{refusal}
 use Rattle.players.specs.Rules.{State, Result, check, players, every, cache-hit, owns, live, with-requests, with-store, still-owned, may-cache}
 use Rattle.requests.proofs.Basics.{decide, both-left as and-left, both-right as and-right}
@@ -57,12 +57,12 @@ pub record Good (g : Range) : Type 0 where
   pub low : g .low < g .high
   pub high : g .high ≤ entries
 
--- a serial is left; a place and a serial are left
+-- a serial is left; a place for the player, or the loader, and a serial are left
 abbrev pub SerialLeft : State → Type 0
 SerialLeft s = s .last < serials
 
-pub record PlaceLeft (s : State) : Type 0 where
-  pub place : length (s .requests) < places
+pub record PlaceLeft (s : State) (p : ℕ) : Type 0 where
+  pub place : no-place p (s .requests) ≡ false
   pub serial : SerialLeft s
 
 -- the request with serial n, not delivered

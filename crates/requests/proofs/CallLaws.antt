@@ -1,24 +1,20 @@
 -- The ways that a call on one place of a region ends.
 -- Assumes nothing.
 use mathlib.Core.Path.{_≡_, sym}
-use mathlib.Core.Bool.{false, not, and-false}
+use mathlib.Core.Bool.{and-false}
 use mathlib.Core.List.{List}
 use Prim.Native.Nat.{ℕ, _+_, _*_, _≤_, _<_}
 use native.Mathlib.Omega.{arith}
-use lib.Dec.{eqb}
-use lib.ListN.{length, getD, set}
+use lib.ListN.{length, set}
 use lib.Seq.{set-out}
 use borrow.Author.Tests.{eq-eqb, ne-eqb, lt-ltb, le-ltb}
 use Rattle.requests.specs.declared.Request.{Request}
 use Rattle.requests.specs.Region.{wordsOf}
-use Rattle.requests.specs.Calls.{full, over, with-request, with-abandoned, with-delivered, closed, without}
+use Rattle.requests.specs.Calls.{over, with-request, with-abandoned, with-delivered, closed, without}
 use Rattle.requests.proofs.WordLaws.{over-out}
 
 -- the region is not whole
 module _ (w : List ℕ) (h : length w ≡ 768 → ⊥) where
-  pub other-full : false ≡ full w
-  other-full = rw (ne-eqb (length w) 768 h)
-
   pub other-put : (k : ℕ) (r : Request) → w ≡ with-request k r w
   unfolding with-request
   other-put k r = rw (ne-eqb (length w) 768 h)
@@ -36,9 +32,6 @@ module _ (w : List ℕ) (h : length w ≡ 768 → ⊥) where
   other-removed k = rw (ne-eqb (length w) 768 h)
 
 module _ (w : List ℕ) (h : length w ≡ 768) where
-  pub last-used : not (eqb (getD w 756 0) 0) ≡ full w
-  last-used = rw (eq-eqb (length w) 768 h)
-
   -- there is no place k
   module _ (k : ℕ) (l : 64 ≤ k) where
     pub no-put : (r : Request) → w ≡ with-request k r w

@@ -1,20 +1,24 @@
 -- The places of a region: what is read of one, the tests of its words, and a walk over all, a case for each way that the code goes.
 -- Assumes nothing.
-use mathlib.Core.Path.{_≡_, ap, _∙_}
+use mathlib.Core.Path.{_≡_, sym, ap, _∙_}
 use mathlib.Core.Bool.{Bool, true, false, _&&_, and-assoc}
 use mathlib.Core.List.{List}
 use Prim.Native.Nat.{ℕ, suc, _+_, _-_, _*_, _%_, _≤_, _<_}
 use native.Mathlib.Nat.{add-zero}
 use native.Mathlib.Omega.{arith}
 use lib.Dec.{T, leb, ltb, eqb, lit<}
-use lib.ListN.{length, getD, drop}
+use lib.ListN.{length, getD, drop, drop-of-length-le}
 use lib.Seq.{getD-drop, drop-drop}
 use mir.Syntax.{w64}
 use mir.Val.{Fits}
 use borrow.Author.Tests.{eq-eqb, ne-eqb, lt-ltb, le-ltb}
 use Rattle.store.specs.Table.{at-most}
 use Rattle.requests.specs.Model.{loader}
-use Rattle.requests.specs.Region.{requestOf, requestAt, request-holds, words-fit, places-hold, valid}
+use Rattle.requests.specs.Shares.{common-places, common, shares-hold, counted, count-in}
+use Rattle.requests.specs.Region.{requestOf, requestAt, requestsOf, request-holds, words-fit, places-hold, valid}
+use Rattle.requests.proofs.CountLaws.{common-counted}
+use Rattle.requests.proofs.Placed.{requests-few}
+use Rattle.requests.proofs.ScanLaws.{place-used, not-used}
 
 -- ---- where a word lies
 
@@ -57,6 +61,27 @@ module _ (w : List ℕ) (k : ℕ) where
   unfolding requestOf
   read-place _ _ _ _ _ _ _ e₁ e₂ e₃ e₄ e₇ e₈ e₉ = rw (e₁, e₂, e₃, e₄, e₇, e₈, e₉) (simp (getD-drop, add-zero))
 
+  -- one field
+  pub player-is : word 1 % 256 ≡ requestAt w k .player
+  unfolding requestOf
+  player-is = ap (λ (n : ℕ). n % 256) (sym (getD-drop (k * 12) w 1 0))
+
+  pub kind-is : word 2 % 256 ≡ requestAt w k .kind
+  unfolding requestOf
+  kind-is = ap (λ (n : ℕ). n % 256) (sym (getD-drop (k * 12) w 2 0))
+
+  pub low-is : word 3 % 256 ≡ requestAt w k .low
+  unfolding requestOf
+  low-is = ap (λ (n : ℕ). n % 256) (sym (getD-drop (k * 12) w 3 0))
+
+  pub high-is : word 4 % 65536 ≡ requestAt w k .high
+  unfolding requestOf
+  high-is = ap (λ (n : ℕ). n % 65536) (sym (getD-drop (k * 12) w 4 0))
+
+  pub abandoned-is : eqb (word 9) 1 ≡ requestAt w k .abandoned
+  unfolding requestOf
+  abandoned-is = ap (λ (n : ℕ). eqb n 1) (sym (getD-drop (k * 12) w 9 0))
+
   -- ---- the words fit
 
   at : (i : ℕ) → getD (drop (k * 12) w) i 0 ≡ word i
@@ -81,7 +106,7 @@ module _ (w : List ℕ) (n p k : ℕ) where
   first : getD (drop (k * 12) w) 0 0 ≡ serial
   first = getD-drop (k * 12) w 0 0 ∙ ap (λ (i : ℕ). getD w i 0) (add-zero (k * 12))
 
-  pub walk-end : 64 ≤ k → rest ≡ true
+  walk-end : 64 ≤ k → rest ≡ true
   unfolding places-hold
   walk-end h =
       let x : 64 - k ≡ 0 = omega arith in
@@ -91,7 +116,7 @@ module _ (w : List ℕ) (n p k : ℕ) where
     one : 64 - k ≡ suc (64 - (k + 1))
     one = omega arith
 
-    pub walk-unused : serial ≡ 0 → rest ≡ at-most 0 (drop (k * 12) w)
+    walk-unused : serial ≡ 0 → rest ≡ at-most 0 (drop (k * 12) w)
     unfolding places-hold
     walk-unused z = ap (λ (j : ℕ). places-hold n p j (drop (k * 12) w)) one ∙ rw (first, eq-eqb serial 0 z)
 
@@ -116,13 +141,27 @@ module _ (w : List ℕ) (n p k : ℕ) where
           pub walk-on : request-holds n (requestAt w k) ≡ true → rest ≡ places-hold n serial (64 - (k + 1)) (drop ((k + 1) * 12) w)
           walk-on q = used ∙ rw (lt-ltb p serial y, f, q)
 
+  -- place k is not used, or past the last: the words from it on are to be 0
+  pub walk-rest : length w ≡ 768 → place-used w k ≡ false → rest ≡ at-most 0 (drop (k * 12) w)
+  unfolding at-most
+  walk-rest l u =
+      not-used w k u (λ h. walk-end h ∙ ap (at-most 0) (sym (drop-of-length-le w {i = k * 12} (omega arith)))) walk-unused
+
 -- ---- the region
+
+-- all places that are used have been passed
+module _ (w : List ℕ) (n : ℕ) where
+  pub places-broken : places-hold n 0 64 w ≡ false → false ≡ places-hold n 0 64 w && shares-hold (requestsOf w)
+  places-broken h = rw h
+
+  pub shares-told : places-hold n 0 64 w ≡ true → (c : ℕ) → c ≡ counted (requestsOf w) → (b : Bool) → b ≡ leb (common (count-in c)) common-places → b ≡ places-hold n 0 64 w && shares-hold (requestsOf w)
+  shares-told h c ec b eb = rw (h, eb, ec, common-counted (requestsOf w) (requests-few w))
 
 module _ (w : List ℕ) (n : ℕ) where
   pub other-length : (length w ≡ 768 → ⊥) → false ≡ valid n w
   unfolding valid
   other-length h = rw (ne-eqb (length w) 768 h)
 
-  pub right-length : (b : Bool) → length w ≡ 768 → b ≡ places-hold n 0 64 w → b ≡ valid n w
+  pub right-length : (b : Bool) → length w ≡ 768 → b ≡ places-hold n 0 64 w && shares-hold (requestsOf w) → b ≡ valid n w
   unfolding valid
   right-length b h e = rw (eq-eqb (length w) 768 h) e

@@ -13,11 +13,10 @@ use lib.Seq.{take-append-add, drop-append-add, drop-at, getD-append-add}
 use borrow.Author.Tests.{eq-eqb, ne-eqb, eqb-true, lt-ltb, leb-true, leb-false}
 use Rattle.requests.specs.declared.Request.{Request}
 use Rattle.requests.specs.declared.Fit.{Fit}
-use Rattle.requests.specs.declared.Look.{Look}
 use Rattle.requests.specs.declared.Found.the-variants.{At, Nowhere}
-use Rattle.requests.specs.Model.{places, serial-is, by, fits, named, any, keep, find, drop-request, change-request, mark-overlapped, mark-abandoned, mark-delivered}
+use Rattle.requests.specs.Model.{places, serial-is, by, fits, named, writing, using-entry, any, keep, find, drop-request, change-request, mark-overlapped, mark-abandoned, mark-delivered}
 use Rattle.requests.specs.Region.{wordsOf, placed, regionOf}
-use Rattle.requests.specs.Calls.{found-from, found, scanned, full, over, with-request, with-abandoned, with-delivered, closed, without, overlapped-from, sought, crossed, pass, passed, remains, give-up, remaining, restarted}
+use Rattle.requests.specs.Calls.{found-from, found, scan-of, scanned, over, with-request, with-abandoned, with-delivered, closed, without, overlapped-from, crossing, crossed, remains, give-up, remaining, restarted}
 use Rattle.requests.proofs.Basics.{decide}
 use Rattle.requests.proofs.Rising.{Each, In, here, there, fewer-kept}
 use Rattle.requests.proofs.RequestRules.{request-fits}
@@ -161,25 +160,6 @@ append-placed (suc m) (q ∷ rs) r h =
     let n : suc (length rs) * 12 ≡ length (wordsOf q) + length rs * 12 = omega arith in
     rw (n, over-skip (wordsOf q) (placed m rs) (length rs * 12) (wordsOf r)) (ap (λ (x : List ℕ). wordsOf q ++ x) (append-placed m rs r (le-of-suc-le-suc h)))
 
--- the first word of a place that is not used, and of one that is
-unused-word : (m k : ℕ) (rs : List Request) → length rs ≤ k → k < m → getD (placed m rs) (k * 12) 0 ≡ 0
-unfolding placed
-unused-word m k [] l h = getD-replicate {A = ℕ} (m * 12) (k * 12) 0 0 (omega arith)
-unused-word zero k (r ∷ rs) l h = absurd (not-suc-le-zero h)
-unused-word (suc m) zero (r ∷ rs) l h = absurd (not-suc-le-zero l)
-unused-word (suc m) (suc k) (r ∷ rs) l h =
-    let n : suc k * 12 ≡ length (wordsOf r) + k * 12 = omega arith in
-    rw (n, getD-append-add (wordsOf r) (placed m rs) (k * 12) 0) (unused-word m k rs (le-of-suc-le-suc l) (le-of-suc-le-suc h))
-
-used-word : (Q : Request → Type 0) (m k p : ℕ) (rs : List Request) → Each Q p rs → k < length rs → length rs ≤ m → getD (placed m rs) (k * 12) 0 ≡ 0 → ⊥
-unfolding placed
-used-word Q m k p [] t h l e = not-suc-le-zero h
-used-word Q zero k p (r ∷ rs) t h l e = not-suc-le-zero l
-used-word Q (suc m) zero p (r ∷ rs) t h l e = omega (arith, t .0, e)
-used-word Q (suc m) (suc k) p (r ∷ rs) t h l e =
-    let n : suc k * 12 ≡ length (wordsOf r) + k * 12 = omega arith in
-    used-word Q m k (r .serial) rs (t .2) (le-of-suc-le-suc h) (le-of-suc-le-suc l) (sym (getD-append-add (wordsOf r) (placed m rs) (k * 12) 0) ∙ ap (λ (i : ℕ). getD (wordsOf r ++ placed m rs) i 0) (sym n) ∙ e)
-
 -- ---- the words of a list, and of places that are changed all
 
 -- the words of some requests, one after the other
@@ -258,19 +238,8 @@ unfolding with-request
 append-region rs r h = rw (is-whole rs) (append-placed places rs r h)
 
 module _ (n : ℕ) (rs : List Request) (few : length rs ≤ places) (q : Requests n 0 rs) where
-  pub scanned-region : (f : Request → Bool) → scanned f (regionOf rs) ≡ record { used = length rs; hit = any f rs }
+  pub scanned-region : (f : Request → Bool) → scanned f (regionOf rs) ≡ scan-of f rs
   scanned-region f = rw (requests-region n rs few q)
-
-  pub full-region : full (regionOf rs) ≡ leb places (length rs)
-  full-region =
-      ⊎-elim
-      (λ h.
-      let l : places ≤ length rs = leb-true places (length rs) h in
-      rw (is-whole rs, ne-eqb (getD (regionOf rs) 756 0) 0 (used-word _ places 63 0 rs q (omega arith) few), h))
-      (λ h.
-      let l : length rs < places = leb-false places (length rs) h in
-      rw (is-whole rs, eq-eqb (getD (regionOf rs) 756 0) 0 (unused-word places 63 rs (omega arith) (omega arith)), h))
-      (decide (leb places (length rs)))
 
   -- nothing is found
   pub nowhere-region : {A : Type 0} (f : Fit) (i : ℕ) (x : A) (go : Request → A) → Nowhere ≡ found f i (regionOf rs) → find (named f i) rs x go ≡ x
@@ -305,9 +274,9 @@ module _ (n : ℕ) (rs : List Request) (few : length rs ≤ places) (q : Request
         rw (is-whole rs)
         (sets-from (regionOf rs) (k * 12) 8 1 10 a 11 b ∙ change-placed _ places (mark-delivered a b) (λ w. set (set (set w 8 1) 10 a) 11 b) (λ x. refl) 0 q few s)
 
-  pub passed-region : (x : Look) → passed x (regionOf rs) ≡ pass (record { used = length rs; hit = any (sought x) rs }) (regionOf (map (λ r. cond (crossed x r) (mark-overlapped r) r) rs))
-  unfolding passed
-  passed-region x = rw (requests-region n rs few q, is-whole rs, overlapped-placed (crossed x) n 0 places rs q few)
+  pub crossed-region : (i e : ℕ) → crossed i e (regionOf rs) ≡ crossing (any (writing i e) rs) (regionOf (map (λ r. cond (using-entry i e r) (mark-overlapped r) r) rs))
+  unfolding crossed
+  crossed-region i e = rw (requests-region n rs few q, is-whole rs, overlapped-placed (using-entry i e) n 0 places rs q few)
 
   pub restarted-region : (i : ℕ) → restarted i (regionOf rs) ≡ regionOf (given-up i rs)
   unfolding restarted

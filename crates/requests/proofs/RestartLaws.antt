@@ -1,24 +1,22 @@
 -- The restart of a player: the pass that keeps the requests that remain.
 -- Assumes nothing.
 use mathlib.Core.Path.{_≡_, refl, sym, ap, _∙_}
-use mathlib.Core.Logic.{⊎-elim}
-use mathlib.Core.Bool.{Bool, true, false, cond, not, _&&_}
+use mathlib.Core.Bool.{Bool, true, false, cond}
 use mathlib.Core.List.{List, [], _++_, append-nil, append-assoc}
 use Prim.Native.Nat.{ℕ, suc, _+_, _-_, _*_, _≤_, _<_}
 use native.Mathlib.Nat.{zero-add}
 use native.Mathlib.Omega.{arith}
-use lib.Dec.{ltb, eqb}
 use lib.ListN.{length, getD, take, drop, set, replicate, length-set, length-drop}
 use lib.Seq.{length-take-le, drop-drop, take-set-lt}
-use borrow.Author.Tests.{eq-eqb, ne-eqb, ltb-true, ltb-false, eqb-true, eqb-false, not-true, not-false}
+use borrow.Author.Tests.{eq-eqb, ne-eqb}
 use borrow.Rule.Slice.PartMut.{putMid}
 use Rattle.requests.specs.declared.Request.{Request}
 use Rattle.requests.specs.Model.{by}
 use Rattle.requests.specs.Region.{requestOf, requestAt, requestsFrom, requestsOf}
 use Rattle.requests.specs.Calls.{over, remains, given-up-words, Carried, carried, carry, remaining, restarted}
-use Rattle.requests.proofs.Basics.{decide, both-left, both-right, cond-elim}
+use Rattle.requests.proofs.Basics.{cond-elim}
 use Rattle.requests.proofs.WordLaws.{length-over, take-over, drop-over, set-in-over}
-use Rattle.requests.proofs.ScanLaws.{from, from-start, from-end, from-unused, from-used, first-word, next-place}
+use Rattle.requests.proofs.ScanLaws.{from, from-start, from-used, first-word, next-place, place-used, not-used}
 
 module _ (p j k : ℕ) (w : List ℕ) (r : Request) (er : r ≡ requestAt w k) where
   pub carry-not : remains p r ≡ false → carried j w ≡ carry p j k w
@@ -144,19 +142,8 @@ module _ (p : ℕ) (w : List ℕ) (k : ℕ) where
       let x : 64 - k ≡ suc (64 - (k + 1)) = omega arith in
       rw (x, first-word w k, eq-eqb (getD w (k * 12) 0) 0 z)
 
-  pub unused-place : (ltb k 64 && not (eqb (getD w (k * 12) 0) 0)) ≡ false → (from w k ≡ []) × (remaining p (64 - k) (drop (k * 12) w) ≡ [])
-  unused-place e =
-      ⊎-elim
-      (λ h.
-      let l = ltb-true k 64 h in
-      let z : getD w (k * 12) 0 ≡ 0 = eqb-true (getD w (k * 12) 0) 0 (not-false (eqb (getD w (k * 12) 0) 0) (rw h at e)) in
-      (from-unused w k l z, unused-rest l z))
-      (λ h. let l = ltb-false k 64 h in (from-end w k l, no-rest l))
-      (decide (ltb k 64))
-
-  pub used-place : (ltb k 64 && not (eqb (getD w (k * 12) 0) 0)) ≡ true → (k < 64) × (getD w (k * 12) 0 ≡ 0 → ⊥)
-  used-place e =
-      (ltb-true k 64 (both-left (ltb k 64) _ e), eqb-false (getD w (k * 12) 0) 0 (not-true (eqb (getD w (k * 12) 0) 0) (both-right (ltb k 64) _ e)))
+  pub rest-none : place-used w k ≡ false → remaining p (64 - k) (drop (k * 12) w) ≡ []
+  rest-none e = not-used w k e no-rest unused-rest
 
 pub restart-none : (p : ℕ) (w : List ℕ) → (length w ≡ 768 → ⊥) → w ≡ restarted p w
 unfolding restarted

@@ -2,25 +2,28 @@
 -- Assumes nothing.
 use mathlib.Core.Path.{_≡_, refl, sym, ap, _∙_}
 use mathlib.Core.Logic.{⊎-elim}
-use mathlib.Core.Bool.{Bool, true, false, cond, _||_, or-false, or-assoc}
+use mathlib.Core.Bool.{Bool, true, false, cond, not, _&&_, _||_, or-false, or-assoc}
 use mathlib.Core.List.{List, [], _∷_}
-use Prim.Native.Nat.{ℕ, suc, _+_, _-_, _*_, _≤_, _<_}
-use native.Mathlib.Nat.{add-zero, zero-add}
+use Prim.Native.Nat.{ℕ, suc, _+_, _-_, _*_, _^_, _≤_, _<_}
+use native.Mathlib.Nat.{add-zero, zero-add, add-assoc}
 use native.Mathlib.Omega.{arith}
 use lib.ListN.{length, getD, drop}
 use lib.Seq.{getD-drop, drop-drop}
-use borrow.Author.Tests.{eq-eqb, ne-eqb}
+use lib.Dec.{ltb, eqb}
+use borrow.Author.Tests.{eq-eqb, ne-eqb, eqb-true, eqb-false, ltb-true, ltb-false, not-true, not-false}
 use Rattle.requests.specs.declared.Request.{Request}
 use Rattle.requests.specs.declared.Fit.{Fit}
 use Rattle.requests.specs.declared.Found.{Found}
 use Rattle.requests.specs.declared.Found.the-variants.{At, Nowhere}
 use Rattle.requests.specs.declared.Scan.{Scan}
 use Rattle.requests.specs.Model.{serial-is, fits, any, find}
+use Rattle.requests.specs.Shares.{unit, counted}
 use Rattle.requests.specs.Region.{requestAt, requestsFrom, requestsOf, wordsOf}
 use Rattle.requests.specs.Answers.{gives, refused, no-such-request}
 use Rattle.requests.specs.Calls.{found-from, found, numbers, ahead, Finds, scanned}
-use Rattle.requests.proofs.Basics.{decide}
-use Rattle.requests.proofs.Placed.{serial-of}
+use Rattle.requests.proofs.Basics.{decide, both-left, both-right}
+use Rattle.requests.proofs.CountLaws.{counted-most}
+use Rattle.requests.proofs.Placed.{serial-of, requests-few}
 
 -- the requests from place k on
 abbrev pub from : List ℕ → ℕ → List Request
@@ -64,6 +67,45 @@ module _ (w : List ℕ) where
       pub from-used : (getD w (k * 12) 0 ≡ 0 → ⊥) → from w k ≡ requestAt w k ∷ from w (k + 1)
       unfolding requestsFrom
       from-used z = ap (λ (j : ℕ). requestsFrom j (drop (k * 12) w)) one ∙ rw (first-word, ne-eqb (getD w (k * 12) 0) 0 z, next-place)
+
+    -- the test of a place: it is used, or it is not used or past the last
+    abbrev pub place-used : Bool
+    place-used = ltb k 64 && not (eqb (getD w (k * 12) 0) 0)
+
+    pub is-used : place-used ≡ true → (k < 64) × (getD w (k * 12) 0 ≡ 0 → ⊥)
+    is-used e =
+        (ltb-true k 64 (both-left (ltb k 64) _ e), eqb-false (getD w (k * 12) 0) 0 (not-true (eqb (getD w (k * 12) 0) 0) (both-right (ltb k 64) _ e)))
+
+    pub not-used : {C : Type 0} → place-used ≡ false → (64 ≤ k → C) → (k < 64 → getD w (k * 12) 0 ≡ 0 → C) → C
+    not-used e past unused =
+        ⊎-elim
+        (λ h. unused (ltb-true k 64 h) (eqb-true (getD w (k * 12) 0) 0 (not-false (eqb (getD w (k * 12) 0) 0) (rw h at e))))
+        (λ h. past (ltb-false k 64 h))
+        (decide (ltb k 64))
+
+    pub from-none : place-used ≡ false → from w k ≡ []
+    from-none e = not-used e from-end from-unused
+
+-- ---- counts
+
+-- the requests from place k on counted, one place further, and at the end
+module _ (w : List ℕ) (k n : ℕ) where
+  pub counted-end : from w k ≡ [] → n ≡ n + counted (from w k)
+  unfolding counted
+  counted-end e = rw (e, add-zero)
+
+  module _ (h : k < 64) (z : getD w (k * 12) 0 ≡ 0 → ⊥) (r : Request) (er : r ≡ requestAt w k) (u : ℕ) (eu : u ≡ unit (r .player)) where
+    pub counted-on : n + counted (from w k) ≡ n + u + counted (from w (k + 1))
+    unfolding counted
+    counted-on = rw (from-used w k h z, eu, er) (sym (add-assoc n (unit (requestAt w k .player)) (counted (from w (k + 1)))))
+
+    -- and the number stays in its word
+    pub counted-fits : n + counted (from w k) ≡ counted (requestsOf w) → n + u ≤ 64 * 2 ^ 56
+    counted-fits e =
+        let a = counted-on in
+        let b = counted-most (requestsOf w) in
+        let c = requests-few w in
+        omega arith
 
 -- ---- a search
 
@@ -113,24 +155,25 @@ finds f n w r e = record { answer = e; numbered = ap numbers e ∙ numbers-from 
 pub found-as : (f : Fit) {n : ℕ} {w : List ℕ} {a r : Found} → Finds f n w a → r ≡ a → r ≡ found f n w
 found-as f x e = e ∙ x .answer
 
--- ---- a count, with a test
+-- ---- a pass that tells
 
 module _ (f : Request → Bool) (w : List ℕ) where
-  -- what the pass will tell, once place k is reached with this result of the test
-  abbrev pub scan-at : ℕ → Bool → Scan
-  scan-at k hit = record { used = k + length (from w k); hit = hit || any f (from w k) }
+  -- what the pass will tell, once place k is reached with this result of the test and these counts
+  abbrev pub scan-at : ℕ → Bool → ℕ → Scan
+  scan-at k hit n = record { used = k + length (from w k); hit = hit || any f (from w k); counts = n + counted (from w k) }
 
-  pub scan-none : (length w ≡ 768 → ⊥) → record { used = 0; hit = false } ≡ scanned f w
+  pub scan-none : (length w ≡ 768 → ⊥) → record { used = 0; hit = false; counts = 0 } ≡ scanned f w
+  unfolding counted
   scan-none h = rw (no-requests w h)
 
-  pub scan-start : length w ≡ 768 → scan-at 0 false ≡ scanned f w
-  scan-start h = rw (from-start w h, zero-add)
+  pub scan-start : length w ≡ 768 → scan-at 0 false 0 ≡ scanned f w
+  scan-start h = rw (from-start w h, zero-add, zero-add)
 
-  module _ (k : ℕ) (hit : Bool) where
-    pub scan-end : from w k ≡ [] → record { used = k; hit = hit } ≡ scan-at k hit
-    scan-end e = rw (e, add-zero, or-false)
+  module _ (k : ℕ) (hit : Bool) (n : ℕ) where
+    pub scan-end : from w k ≡ [] → record { used = k; hit = hit; counts = n } ≡ scan-at k hit n
+    scan-end e = rw (← counted-end w k n e, e, add-zero, or-false)
 
-    pub scan-on : k < 64 → (getD w (k * 12) 0 ≡ 0 → ⊥) → (r : Request) → r ≡ requestAt w k → (b : Bool) → b ≡ hit || f r → scan-at k hit ≡ scan-at (k + 1) b
-    scan-on h z r er b eb =
-        let x : k + suc (length (from w (k + 1))) ≡ k + 1 + length (from w (k + 1)) = omega arith in
-        rw (from-used w k h z, eb, er, x, or-assoc)
+    pub scan-on : (h : k < 64) (z : getD w (k * 12) 0 ≡ 0 → ⊥) (r : Request) → r ≡ requestAt w k → (b : Bool) → b ≡ hit || f r → (u : ℕ) → u ≡ unit (r .player) → scan-at k hit n ≡ scan-at (k + 1) b (n + u)
+    scan-on h z r er b eb u eu =
+        let m : k + suc (length (from w (k + 1))) ≡ k + 1 + length (from w (k + 1)) = omega arith in
+        rw (counted-on w k n h z r er u eu, from-used w k h z, eb, er, m, or-assoc)

@@ -1,7 +1,7 @@
 -- What each call finds in a region, and does to it. A region that is not whole has no requests, and stays as it is.
 -- Assumes nothing.
 use mathlib.Core.Path.{_≡_}
-use mathlib.Core.Bool.{Bool, false, cond, not, _&&_}
+use mathlib.Core.Bool.{Bool, cond, not, _&&_}
 use mathlib.Core.List.{List, [], _∷_, _++_}
 use Prim.Native.Nat.{ℕ, zero, suc, _+_, _-_, _*_}
 use lib.Dec.{ltb, eqb}
@@ -10,10 +10,9 @@ use Rattle.requests.specs.declared.Request.{Request}
 use Rattle.requests.specs.declared.Fit.{Fit}
 use Rattle.requests.specs.declared.Found.{Found}
 use Rattle.requests.specs.declared.Found.the-variants.{At, Nowhere}
-use Rattle.requests.specs.declared.Look.{Look}
-use Rattle.requests.specs.declared.Look.the-variants.{Requesting, Writing, Crossing}
 use Rattle.requests.specs.declared.Scan.{Scan}
-use Rattle.requests.specs.Model.{places, serial-is, by, pending, fits, requesting, writing, using-entry, any, find, mark-abandoned}
+use Rattle.requests.specs.Model.{places, serial-is, by, pending, fits, writing, using-entry, any, find, mark-abandoned}
+use Rattle.requests.specs.Shares.{counted}
 use Rattle.requests.specs.Region.{requestOf, whole, requestsOf, wordsOf}
 use Rattle.requests.specs.Answers.{Numbers, gives, refused, no-such-request}
 
@@ -47,13 +46,12 @@ pub record Finds (f : Fit) (n : ℕ) (w : List ℕ) (r : Found) : Type 0 where
   pub answer : r ≡ found f n w
   pub numbered : numbers r ≡ found-numbers f n w
 
--- how many requests there are, and whether the test holds of one
-abbrev pub scanned : (Request → Bool) → List ℕ → Scan
-scanned f w = record { used = length (requestsOf w); hit = any f (requestsOf w) }
+-- what a pass tells: how many requests there are, whether the test holds of one, and the counts of all by player
+abbrev pub scan-of : (Request → Bool) → List Request → Scan
+scan-of f rs = record { used = length rs; hit = any f rs; counts = counted rs }
 
--- the last place is used
-abbrev pub full : List ℕ → Bool
-full w = whole w && not (eqb (getD w 756 0) 0)
+abbrev pub scanned : (Request → Bool) → List ℕ → Scan
+scanned f w = scan-of f (requestsOf w)
 
 -- ---- one place changed
 
@@ -90,28 +88,17 @@ unfoldable pub overlapped-from : (Request → Bool) → ℕ → List ℕ → Lis
 overlapped-from f zero w = w
 overlapped-from f (suc n) w = cond (eqb (getD w 0 0) 0) w (take 12 (cond (f (requestOf w)) (set w 7 1) w) ++ overlapped-from f n (drop 12 w))
 
--- what a pass looks for: in step 3 ‘a waiting guard request of this player’, which shares an entry, in steps 4 and 5 a waiting write by this player on this entry
-abbrev pub sought : Look → Request → Bool
-sought (Requesting p g) r = requesting p g r
-sought (Writing p e) r = writing p e r
-sought (Crossing p e) r = writing p e r
-
--- what it marks. Step 5: ‘marks this player's waiting reads and writes on the entry overlapped’
-abbrev pub crossed : Look → Request → Bool
-crossed (Requesting p g) r = false
-crossed (Writing p e) r = false
-crossed (Crossing p e) r = using-entry p e r
-
--- what a pass tells, and the region after it
-pub record Pass : Type 0 where
-  pub scan : Scan
+-- whether a request is a pending write of the player on the entry, and the region after ‘marks this player's waiting reads and writes on the entry
+-- overlapped’
+pub record Crossing : Type 0 where
+  pub hit : Bool
   pub words : List ℕ
 
-abbrev pub pass : Scan → List ℕ → Pass
-pass s w = record { scan = s; words = w }
+abbrev pub crossing : Bool → List ℕ → Crossing
+crossing b w = record { hit = b; words = w }
 
-unfoldable pub passed : Look → List ℕ → Pass
-passed x w = pass (scanned (sought x) w) (cond (whole w) (overlapped-from (crossed x) places w) w)
+unfoldable pub crossed : ℕ → ℕ → List ℕ → Crossing
+crossed p e w = crossing (any (writing p e) (requestsOf w)) (cond (whole w) (overlapped-from (using-entry p e) places w) w)
 
 -- a request remains when the player restarts: all but those of its pending ones that are delivered
 abbrev pub remains : ℕ → Request → Bool

@@ -5,9 +5,6 @@ pub const SIZE: usize = 12;
 
 pub const WORDS: usize = PLACES * SIZE;
 
-// Where the last place begins.
-pub const LAST_PLACE: usize = WORDS - SIZE;
-
 // The fields, after the serial.
 pub const PLAYER: usize = 1;
 
@@ -33,3 +30,8 @@ pub const SECOND: usize = 11;
 
 // The player of a load.
 pub const LOADER: u8 = 8;
+
+// The places that each player has of its own, and those that are common to the players and the loader.
+pub const OWN_PLACES: u64 = 6;
+
+pub const COMMON_PLACES: u64 = 16;

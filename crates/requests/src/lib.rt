@@ -1,12 +1,12 @@
 // The requests in flight between the players and the store: 64 places of 12 words, as specs/Region.antt lays them out.
-use store::Range;
-
+mod fields;
 pub mod kinds;
 pub mod layout;
 pub mod lent;
 mod places;
 pub mod region;
 mod rules;
+pub mod shares;
 mod tests;
 
 // A request in flight (document: row). Fields that its kind lacks are 0, and so is the outcome before delivery.
@@ -66,18 +66,10 @@ pub enum Found {
     Nowhere,
 }
 
-// What a pass over the requests looks for.
-pub enum Look {
-    // step 3: a pending guard request of the player that shares an entry with the range
-    Requesting { player: u8, range: Range },
-    // step 4: a pending write of the player on the entry
-    Writing { player: u8, entry: u8 },
-    // step 5: the same, and the player's pending reads and writes there are marked overlapped
-    Crossing { player: u8, entry: u8 },
-}
-
-// What a pass over the requests tells: how many there are, and whether one is of those that are looked for.
+// What a pass over the requests tells: how many there are, whether one is of those that are looked for, and how many each player has
+// (`shares::is_full`).
 pub struct Scan {
     pub used: usize,
     pub hit: bool,
+    pub counts: u64,
 }

@@ -1,6 +1,6 @@
 // One place of the region: 12 words, which hold a request.
-use crate::Look;
 use crate::Request;
+use crate::fields;
 use crate::layout;
 use crate::tests;
 use store::words;
@@ -10,30 +10,9 @@ ghost use mathlib.Core.Bool.{cond, not, _&&_};
 ghost use Prim.Native.Nat.{_+_, _*_, _%_, _≤_, _<_};
 ghost use lib.Dec.{ltb, eqb};
 ghost use lib.ListN.{length, getD, take, drop, set, replicate};
-ghost use Rattle.requests.specs.Model.{by};
+ghost use Rattle.requests.specs.Model.{by, using-entry};
 ghost use Rattle.requests.specs.Region.{requestAt, bit, wordsOf, region-words};
-ghost use Rattle.requests.specs.Calls.{over, closed, crossed, carried, carry};
-
-// A word cut to 8 bits.
-fn byte(x: u32) -> u8
-    ensures { λ r. ⌜ r ≡ x % 256 ⌝ }
-{
-    (x % 256) as u8
-}
-
-// A word cut to 16 bits.
-fn half(x: u32) -> u16
-    ensures { λ r. ⌜ r ≡ x % 65536 ⌝ }
-{
-    (x % 65536) as u16
-}
-
-// A mark.
-fn flag(x: u32) -> bool
-    ensures { λ r. ⌜ r ≡ eqb x 1 ⌝ }
-{
-    x == 1
-}
+ghost use Rattle.requests.specs.Calls.{over, closed, carried, carry};
 
 // The request of place `k`.
 pub(crate) fn request_at(region: &[u32], k: usize) -> Request
@@ -43,15 +22,15 @@ pub(crate) fn request_at(region: &[u32], k: usize) -> Request
     let b = k * layout::SIZE;
     Request {
         serial: region[b],
-        player: byte(region[b + layout::PLAYER]),
-        kind: byte(region[b + layout::KIND]),
-        low: byte(region[b + layout::LOW]),
-        high: half(region[b + layout::HIGH]),
+        player: fields::byte(region[b + layout::PLAYER]),
+        kind: fields::byte(region[b + layout::KIND]),
+        low: fields::byte(region[b + layout::LOW]),
+        high: fields::half(region[b + layout::HIGH]),
         value: region[b + layout::VALUE],
         guard: region[b + layout::GUARD],
-        overlapped: flag(region[b + layout::OVERLAPPED]),
-        delivered: flag(region[b + layout::DELIVERED]),
-        abandoned: flag(region[b + layout::ABANDONED]),
+        overlapped: fields::flag(region[b + layout::OVERLAPPED]),
+        delivered: fields::flag(region[b + layout::DELIVERED]),
+        abandoned: fields::flag(region[b + layout::ABANDONED]),
         first: region[b + layout::FIRST],
         second: region[b + layout::SECOND],
     }
@@ -117,12 +96,12 @@ pub(crate) fn close(region: &mut [u32], k: usize)
     drop_first(&mut region[k * layout::SIZE..]);
 }
 
-// Marks the request `r` of place `k` as overlapped if a write crosses it.
-pub(crate) fn overlap(region: &mut [u32], k: usize, r: Request, look: Look)
+// Marks the request of place `k` as overlapped if it is a pending read or write of the player on the entry.
+pub(crate) fn overlap(region: &mut [u32], k: usize, player: u8, entry: u8)
     requires { ⌜ (k < 64) × (length (now region) ≡ region-words) ⌝ }
-    ensures { λ _. ⌜ now (region .exit) ≡ cond (crossed look r) (set (now (region .entry)) (k * 12 + 7) 1) (now (region .entry)) ⌝ }
+    ensures { λ _. ⌜ now (region .exit) ≡ cond (using-entry player entry (requestAt (now (region .entry)) k)) (set (now (region .entry)) (k * 12 + 7) 1) (now (region .entry)) ⌝ }
 {
-    if !tests::is_crossed(r, look) {
+    if !tests::is_using(region, k, player, entry) {
         return;
     }
     region[k * layout::SIZE + layout::OVERLAPPED] = 1;

@@ -1,17 +1,20 @@
 // The calls on a region. One that is not whole, of 768 words, has no requests and stays as it is.
 use crate::Fit;
 use crate::Found;
-use crate::Look;
 use crate::Request;
 use crate::Scan;
+use crate::fields;
 use crate::layout;
 use crate::places;
 use crate::rules;
+use crate::shares;
 use crate::tests;
+use store::Range;
 use store::words;
 ghost use mathlib.Core.Path.{_≡_};
+ghost use Rattle.requests.specs.Model.{requesting, writing, using-entry};
 ghost use Rattle.requests.specs.Region.{valid};
-ghost use Rattle.requests.specs.Calls.{Finds, full, with-request, with-abandoned, with-delivered, without, pass, passed, restarted};
+ghost use Rattle.requests.specs.Calls.{Finds, scanned, with-request, with-abandoned, with-delivered, without, crossing, crossed, restarted};
 
 // Whether a region keeps the rules, where `last` is the last serial issued.
 pub fn holds(region: &[u32], last: u32) -> bool
@@ -50,14 +53,84 @@ pub fn find(region: &[u32], serial: u32, fit: Fit) -> Found
     Found::Nowhere
 }
 
-// Whether the last place is used.
-pub fn is_full(region: &[u32]) -> bool
-    ensures { λ r. ⌜ r ≡ full (now (region .entry)) ⌝ }
+// ---- passes over all requests: how many there are, whether one is looked for, and how many each player has
+
+// Step 3 looks for a pending guard request of the player that shares an entry with the range.
+pub fn scan_requesting(region: &[u32], player: u8, range: Range) -> Scan
+    ensures { λ r. ⌜ r ≡ scanned (requesting player range) (now (region .entry)) ⌝ }
 {
     if region.len() != layout::WORDS {
-        return false;
+        return Scan {
+            used: 0,
+            hit: false,
+            counts: 0,
+        };
     }
-    region[layout::LAST_PLACE] != 0
+    let mut hit = false;
+    let mut counts: u64 = 0;
+    let mut k = 0;
+    while places::is_used(region, k) {
+        hit = tests::either(hit, tests::is_requesting(region, k, player, range));
+        counts += shares::unit(fields::player(region, k));
+        k += 1;
+    }
+    Scan {
+        used: k,
+        hit,
+        counts,
+    }
+}
+
+// Step 4 looks for a pending write of the player on the entry.
+pub fn scan_writing(region: &[u32], player: u8, entry: u8) -> Scan
+    ensures { λ r. ⌜ r ≡ scanned (writing player entry) (now (region .entry)) ⌝ }
+{
+    if region.len() != layout::WORDS {
+        return Scan {
+            used: 0,
+            hit: false,
+            counts: 0,
+        };
+    }
+    let mut hit = false;
+    let mut counts: u64 = 0;
+    let mut k = 0;
+    while places::is_used(region, k) {
+        hit = tests::either(hit, tests::is_writing(region, k, player, entry));
+        counts += shares::unit(fields::player(region, k));
+        k += 1;
+    }
+    Scan {
+        used: k,
+        hit,
+        counts,
+    }
+}
+
+// Step 5 looks for a pending read or write of the player on the entry.
+pub fn scan_using(region: &[u32], player: u8, entry: u8) -> Scan
+    ensures { λ r. ⌜ r ≡ scanned (using-entry player entry) (now (region .entry)) ⌝ }
+{
+    if region.len() != layout::WORDS {
+        return Scan {
+            used: 0,
+            hit: false,
+            counts: 0,
+        };
+    }
+    let mut hit = false;
+    let mut counts: u64 = 0;
+    let mut k = 0;
+    while places::is_used(region, k) {
+        hit = tests::either(hit, tests::is_using(region, k, player, entry));
+        counts += shares::unit(fields::player(region, k));
+        k += 1;
+    }
+    Scan {
+        used: k,
+        hit,
+        counts,
+    }
 }
 
 // ---- one place changed
@@ -118,28 +191,21 @@ pub fn remove(region: &mut [u32], k: usize)
 
 // ---- all places changed
 
-// How many requests there are, and whether one is looked for. Those that a write crosses are marked as overlapped.
-pub fn scan(region: &mut [u32], look: Look) -> Scan
-    ensures { λ r. ⌜ pass r (now (region .exit)) ≡ passed look (now (region .entry)) ⌝ }
+// Marks the player's pending reads and writes on the entry as overlapped; whether a write is among them.
+pub fn cross(region: &mut [u32], player: u8, entry: u8) -> bool
+    ensures { λ r. ⌜ crossing r (now (region .exit)) ≡ crossed player entry (now (region .entry)) ⌝ }
 {
     if region.len() != layout::WORDS {
-        return Scan {
-            used: 0,
-            hit: false,
-        };
+        return false;
     }
     let mut hit = false;
     let mut k = 0;
-    while k < layout::PLACES {
-        if region[k * layout::SIZE] == 0 {
-            return Scan { used: k, hit };
-        }
-        let r = places::request_at(region, k);
-        hit = tests::either(hit, tests::is_sought(r, look));
-        places::overlap(region, k, r, look);
+    while places::is_used(region, k) {
+        hit = tests::either(hit, tests::is_writing(region, k, player, entry));
+        places::overlap(region, k, player, entry);
         k += 1;
     }
-    Scan { used: k, hit }
+    hit
 }
 
 // Gives up the player's pending requests: those delivered leave, the others are abandoned.

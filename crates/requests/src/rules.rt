@@ -3,11 +3,14 @@ use crate::Request;
 use crate::kinds;
 use crate::layout;
 use crate::places;
+use crate::shares;
 use store::words;
 ghost use mathlib.Core.Path.{_≡_};
+ghost use mathlib.Core.Bool.{_&&_};
 ghost use Prim.Native.Nat.{_*_, _<_};
 ghost use lib.ListN.{length, drop};
-ghost use Rattle.requests.specs.Region.{guard-request-holds, read-holds, write-holds, load-holds, fields-hold, outcome-holds, request-holds, words-fit, places-hold, region-words};
+ghost use Rattle.requests.specs.Shares.{shares-hold};
+ghost use Rattle.requests.specs.Region.{guard-request-holds, read-holds, write-holds, load-holds, fields-hold, outcome-holds, request-holds, words-fit, places-hold, region-words, requestsOf};
 
 // Whether the fields of a guard request keep the rules.
 fn guard_request_holds(r: Request) -> bool
@@ -142,30 +145,32 @@ fn words_fit(region: &[u32], k: usize) -> bool
         & (region[b + layout::ABANDONED] <= 1)
 }
 
-// Whether the 64 places keep the rules.
+// Whether the 64 places keep the rules, and the players their shares of them.
 pub(crate) fn places_hold(region: &[u32], last: u32) -> bool
     requires { ⌜ length (now region) ≡ region-words ⌝ }
-    ensures { λ b. ⌜ b ≡ places-hold last 0 64 (now (region .entry)) ⌝ }
+    ensures { λ b. ⌜ b ≡ places-hold last 0 64 (now (region .entry)) && shares-hold (requestsOf (now (region .entry))) ⌝ }
 {
+    let mut counts: u64 = 0;
     let mut serial: u32 = 0;
     let mut k = 0;
-    while k < layout::PLACES {
-        let at = k * layout::SIZE;
-        let next = region[at];
-        if next == 0 {
-            return words::are_zero(&region[at..]);
-        }
+    while places::is_used(region, k) {
+        let next = region[k * layout::SIZE];
         if next <= serial {
             return false;
         }
         if !words_fit(region, k) {
             return false;
         }
-        if !request_holds(places::request_at(region, k), last) {
+        let r = places::request_at(region, k);
+        if !request_holds(r, last) {
             return false;
         }
+        counts += shares::unit(r.player);
         serial = next;
         k += 1;
     }
-    true
+    if !words::are_zero(&region[k * layout::SIZE..]) {
+        return false;
+    }
+    shares::are_kept(counts)
 }

@@ -1,85 +1,69 @@
-// Tests of one request.
+// Tests of one request: by its place, of which most end at the first word that they read, or once it has been read.
 use crate::Fit;
-use crate::Look;
 use crate::Request;
+use crate::fields;
 use crate::kinds;
 use store::Range;
 ghost use mathlib.Core.Path.{_≡_};
 ghost use mathlib.Core.Bool.{_||_};
+ghost use Prim.Native.Nat.{_<_};
+ghost use lib.ListN.{length};
 ghost use Rattle.requests.specs.Model.{fits, requesting, writing, using-entry};
-ghost use Rattle.requests.specs.Calls.{sought, crossed, remains};
+ghost use Rattle.requests.specs.Region.{requestAt, region-words};
+ghost use Rattle.requests.specs.Calls.{remains};
 
-// A pending guard request of the player that shares an entry with the range.
-pub(crate) fn is_requesting(r: Request, player: u8, range: Range) -> bool
-    ensures { λ b. ⌜ b ≡ requesting player range r ⌝ }
+// Whether place `k` holds a pending guard request of the player that shares an entry with the range.
+pub(crate) fn is_requesting(region: &[u32], k: usize, player: u8, range: Range) -> bool
+    requires { ⌜ (k < 64) × (length (now region) ≡ region-words) ⌝ }
+    ensures { λ b. ⌜ b ≡ requesting player range (requestAt (now (region .entry)) k) ⌝ }
 {
-    if r.abandoned {
+    if fields::player(region, k) != player {
         return false;
     }
-    if r.kind != kinds::GUARD_REQUEST {
+    if fields::kind(region, k) != kinds::GUARD_REQUEST {
         return false;
     }
-    if r.player != player {
+    if fields::abandoned(region, k) {
         return false;
     }
-    if r.low as u16 >= range.high {
+    if fields::low(region, k) as u16 >= range.high {
         return false;
     }
-    (range.low as u16) < r.high
+    (range.low as u16) < fields::high(region, k)
 }
 
-// A pending write of the player on the entry.
-pub(crate) fn is_writing(r: Request, player: u8, entry: u8) -> bool
-    ensures { λ b. ⌜ b ≡ writing player entry r ⌝ }
+// Whether place `k` holds a pending write of the player on the entry.
+pub(crate) fn is_writing(region: &[u32], k: usize, player: u8, entry: u8) -> bool
+    requires { ⌜ (k < 64) × (length (now region) ≡ region-words) ⌝ }
+    ensures { λ b. ⌜ b ≡ writing player entry (requestAt (now (region .entry)) k) ⌝ }
 {
-    if r.abandoned {
+    if fields::low(region, k) != entry {
         return false;
     }
-    if r.kind != kinds::WRITE {
+    if fields::player(region, k) != player {
         return false;
     }
-    if r.player != player {
+    if fields::kind(region, k) != kinds::WRITE {
         return false;
     }
-    r.low == entry
+    !fields::abandoned(region, k)
 }
 
-// A pending read or write of the player on the entry.
-pub(crate) fn is_using(r: Request, player: u8, entry: u8) -> bool
-    ensures { λ b. ⌜ b ≡ using-entry player entry r ⌝ }
+// Whether place `k` holds a pending read or write of the player on the entry.
+pub(crate) fn is_using(region: &[u32], k: usize, player: u8, entry: u8) -> bool
+    requires { ⌜ (k < 64) × (length (now region) ≡ region-words) ⌝ }
+    ensures { λ b. ⌜ b ≡ using-entry player entry (requestAt (now (region .entry)) k) ⌝ }
 {
-    if r.abandoned {
+    if fields::low(region, k) != entry {
         return false;
     }
-    if r.kind == kinds::GUARD_REQUEST {
+    if fields::player(region, k) != player {
         return false;
     }
-    if r.player != player {
+    if fields::kind(region, k) == kinds::GUARD_REQUEST {
         return false;
     }
-    r.low == entry
-}
-
-// Whether it is looked for.
-pub(crate) fn is_sought(r: Request, look: Look) -> bool
-    ensures { λ b. ⌜ b ≡ sought look r ⌝ }
-{
-    match look {
-        Look::Requesting { player, range } => is_requesting(r, player, range),
-        Look::Writing { player, entry } => is_writing(r, player, entry),
-        Look::Crossing { player, entry } => is_writing(r, player, entry),
-    }
-}
-
-// Whether a write crosses it.
-pub(crate) fn is_crossed(r: Request, look: Look) -> bool
-    ensures { λ b. ⌜ b ≡ crossed look r ⌝ }
-{
-    match look {
-        Look::Requesting { player, range } => false,
-        Look::Writing { player, entry } => false,
-        Look::Crossing { player, entry } => is_using(r, player, entry),
-    }
+    !fields::abandoned(region, k)
 }
 
 // Whether a step that names it fits it.

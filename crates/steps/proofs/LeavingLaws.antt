@@ -24,7 +24,7 @@ use Rattle.players.specs.declared.Step.the-variants.{Abandon, Lose, RestartPlay
 use Rattle.players.specs.Replies.{refusal}
 use Rattle.players.specs.Rules.{fresh-player, State, Result, with-requests, with-player, removed, on-request, abandon, lose, restart-player, step}
 use Rattle.players.specs.Table.{players-words, tableOf}
-use Rattle.players.proofs.Tables.{Ok}
+use Rattle.players.proofs.Tables.{Ok, few-requests}
 use Rattle.steps.specs.InnerWords.{Moves, giving-up, cleared, dropped}
 use Rattle.steps.proofs.RunLaws.{within-in}
 use Rattle.steps.proofs.StateLaws.{part-of, requests-put, cleared-put}
@@ -41,7 +41,7 @@ module _ (f : Fit) (n : ℕ) (go : State → Request → Result) (t : List ℕ) 
   pub unfit-moves : Nowhere ≡ found f n (take 768 (drop 8705 t)) → (r : Reply) → r ≡ refusal 32 → Moves on t r t
   unfit-moves e r er =
       refused on t l 32 r er
-      (λ s o y. nowhere-region (s .last) (s .requests) (o .few) (o .requests) f n (result s (refusal 32)) (go s) (e ∙ ap (found f n) (part-is o y)))
+      (λ s o y. nowhere-region (s .last) (s .requests) (few-requests o) (o .requests) f n (result s (refusal 32)) (go s) (e ∙ ap (found f n) (part-is o y)))
 
   -- there is one
   pub fit-moves : (k : ℕ) (q : Request) → At k q ≡ found f n (take 768 (drop 8705 t)) → (r : Reply) (t′ : List ℕ)
@@ -50,19 +50,19 @@ module _ (f : Fit) (n : ℕ) (go : State → Request → Result) (t : List ℕ) 
       moves on t l r t′
       (λ s o y.
       let i : At k q ≡ found f n (regionOf (s .requests)) = e ∙ ap (found f n) (part-is o y) in
-      let d : on s ≡ go s q = found-region (s .last) (s .requests) (o .few) (o .requests) f n k q i (result s (refusal 32)) (go s) in
-      rw d (m s o y (found-stands (s .last) (s .requests) (o .few) (o .requests) f n k q i)))
+      let d : on s ≡ go s q = found-region (s .last) (s .requests) (few-requests o) (o .requests) f n k q i (result s (refusal 32)) (go s) in
+      rw d (m s o y (found-stands (s .last) (s .requests) (few-requests o) (o .requests) f n k q i)))
 
 -- the request at place k leaves
 module _ {t : List ℕ} {s : State} (o : Ok s) (y : t ≡ tableOf s) {k : ℕ} {q : Request} (x : Stands q k (s .requests)) where
   pub removed-put : (c : List ℕ) → c ≡ without k (take 768 (drop 8705 t)) → putMid 8705 768 t c ≡ tableOf (removed s q)
   removed-put c ec =
-      rw y (requests-put s c _ (ec ∙ ap (without k) (part-is o y) ∙ without-region (s .last) (s .requests) (o .few) (o .requests) x))
+      rw y (requests-put s c _ (ec ∙ ap (without k) (part-is o y) ∙ without-region (s .last) (s .requests) (few-requests o) (o .requests) x))
 
   -- or is abandoned
   pub abandoned-put : (c : List ℕ) → c ≡ with-abandoned k (take 768 (drop 8705 t)) → putMid 8705 768 t c ≡ tableOf (with-requests s (change-request (q .serial) mark-abandoned (s .requests)))
   abandoned-put c ec =
-      rw y (requests-put s c _ (ec ∙ ap (with-abandoned k) (part-is o y) ∙ abandoned-region (s .last) (s .requests) (o .few) (o .requests) x))
+      rw y (requests-put s c _ (ec ∙ ap (with-abandoned k) (part-is o y) ∙ abandoned-region (s .last) (s .requests) (few-requests o) (o .requests) x))
 
 -- ---- 9 lose
 
@@ -128,5 +128,5 @@ module _ (t : List ℕ) (l : length t ≡ players-words) (p : ℕ) where
       e₁ ∙ ap (λ (i : ℕ). cleared i (p * 256 + 256) t) (sym (add-zero (p * 256))) ∙ ap (cleared (p * 256 + 0) (p * 256 + 256)) y
       ∙ cleared-put s p hp 0 256 (omega arith) (omega arith) fresh-player (λ x h. rw (within-in 0 256 x (omega arith) h)) (λ x h. rw (within-in 0 256 x (omega arith) h)) in
       let d : step s (RestartPlayer p) ≡ restart-player s p = rw (lt-leb 8 p hp) in
-      let c-is : c ≡ regionOf (given-up p (s .requests)) = ec ∙ ap (λ (u : List ℕ). restarted p (take 768 (drop 8705 u))) y₁ ∙ ap (restarted p) (part-of s₁) ∙ restarted-region (s .last) (s .requests) (o .few) (o .requests) p in
+      let c-is : c ≡ regionOf (given-up p (s .requests)) = ec ∙ ap (λ (u : List ℕ). restarted p (take 768 (drop 8705 u))) y₁ ∙ ap (restarted p) (part-of s₁) ∙ restarted-region (s .last) (s .requests) (few-requests o) (o .requests) p in
       rw d (er, rw y₁ (requests-put s₁ c (given-up p (s .requests)) c-is)))

@@ -3,23 +3,21 @@
 use mathlib.Core.Path.{_≡_, sym, ap, _∙_}
 use mathlib.Core.Bool.{Bool, false}
 use mathlib.Core.List.{List}
-use Prim.Native.Nat.{ℕ}
-use lib.Dec.{leb}
+use Prim.Native.Nat.{ℕ, _≤_, _<_}
 use lib.ListN.{length, getD, take, drop}
-use borrow.Rule.Slice.PartMut.{putMid, put-same}
 use Rattle.store.specs.declared.Reply.{Reply}
 use Rattle.requests.specs.declared.Request.{Request}
-use Rattle.requests.specs.declared.Look.{Look}
 use Rattle.requests.specs.declared.Scan.{Scan}
-use Rattle.requests.specs.Model.{places, any}
+use Rattle.requests.specs.Model.{places, loader, any}
+use Rattle.requests.specs.Shares.{turned-away, no-place, count-in}
 use Rattle.requests.specs.Region.{regionOf}
-use Rattle.requests.specs.Calls.{scanned, full, sought, crossed, Pass, pass, passed}
-use Rattle.requests.proofs.CrossLaws.{pass-unmarked}
-use Rattle.requests.proofs.RegionLaws.{scanned-region, full-region}
+use Rattle.requests.specs.Calls.{scan-of, scanned}
+use Rattle.requests.proofs.CountLaws.{turned-counted}
+use Rattle.requests.proofs.RegionLaws.{scanned-region}
 use Rattle.players.specs.Replies.{refusal}
 use Rattle.players.specs.Rules.{State, Result}
 use Rattle.players.specs.Table.{players-words, last-word, stateOf, tableOf}
-use Rattle.players.proofs.Tables.{Ok, ok-tables, players-table-back, last-of}
+use Rattle.players.proofs.Tables.{Ok, few-requests, place-free, ok-tables, players-table-back, last-of}
 use Rattle.steps.specs.InnerWords.{Moves}
 use Rattle.steps.proofs.StateLaws.{part-of}
 
@@ -55,16 +53,22 @@ module _ {t : List ℕ} {s : State} (o : Ok s) (e : t ≡ tableOf s) where
   pub part-is : take 768 (drop 8705 t) ≡ regionOf (s .requests)
   part-is = ap (λ (u : List ℕ). take 768 (drop 8705 u)) e ∙ part-of s
 
-  pub full-is : (b : Bool) → b ≡ full (take 768 (drop 8705 t)) → leb places (length (s .requests)) ≡ b
-  full-is b eb = sym (eb ∙ ap full part-is ∙ full-region (s .last) (s .requests) (o .few) (o .requests))
+  -- what a pass over the requests tells
+  module _ (f : Request → Bool) {r : Scan} (er : r ≡ scanned f (take 768 (drop 8705 t))) where
+    scan-is : r ≡ scan-of f (s .requests)
+    scan-is = er ∙ ap (scanned f) part-is ∙ scanned-region (s .last) (s .requests) (few-requests o) (o .requests) f
 
-  pub scan-is : (f : Request → Bool) (x : Scan) → x ≡ scanned f (take 768 (drop 8705 t)) → x ≡ record { used = length (s .requests); hit = any f (s .requests) }
-  scan-is f x ex = ex ∙ ap (scanned f) part-is ∙ scanned-region (s .last) (s .requests) (o .few) (o .requests) f
+    pub used-is : r .used ≡ length (s .requests)
+    used-is = ap (λ (y : Scan). y .used) scan-is
 
--- a pass that marks nothing: what it tells, and the table stays as it is
-module _ (x : Look) (h : (q : Request) → crossed x q ≡ false) (t : List ℕ) {r : Scan} {c : List ℕ} (e : pass r c ≡ passed x (take 768 (drop 8705 t))) where
-  pub told : r ≡ scanned (sought x) (take 768 (drop 8705 t))
-  told = ap (λ (d : Pass). d .scan) (e ∙ pass-unmarked x h (take 768 (drop 8705 t)))
+    pub hit-is : (b : Bool) → r .hit ≡ b → any f (s .requests) ≡ b
+    hit-is b eb = sym (ap (λ (y : Scan). y .hit) scan-is) ∙ eb
 
-  pub unmarked : putMid 8705 768 t c ≡ t
-  unmarked = ap (λ (d : Pass). putMid 8705 768 t (d .words)) (e ∙ pass-unmarked x h (take 768 (drop 8705 t))) ∙ put-same 8705 768 t
+    -- whether no place is left for the player, by its counts
+    module _ (p : ℕ) {full : Bool} (ef : full ≡ turned-away (count-in (r .counts)) p) where
+      pub full-is : (b : Bool) → full ≡ b → no-place p (s .requests) ≡ b
+      full-is b eb =
+          sym (turned-counted (s .requests) (few-requests o) p) ∙ ap (λ (y : Scan). turned-away (count-in (y .counts)) p) (sym scan-is) ∙ sym ef ∙ eb
+
+      pub room-is : full ≡ false → p ≤ loader → length (s .requests) < places
+      room-is eb h = place-free o p h (full-is false eb)

@@ -32,7 +32,7 @@ use Rattle.players.specs.Regions.{region}
 use Rattle.players.specs.Table.{players-words, last-word, request-words, stateOf, tableOf, valid}
 use Rattle.players.specs.Calls.{left, encoded, whole}
 use Rattle.players.proofs.CallLaws.{same-tables}
-use Rattle.players.proofs.Tables.{rules, valid-store-words, valid-players-words, ok-tables, players-table-back}
+use Rattle.players.proofs.Tables.{few-requests, rules, valid-store-words, valid-players-words, ok-tables, players-table-back}
 use Rattle.steps.specs.InnerStore.{Shifts, Acts, performed, settled-words}
 use Rattle.steps.proofs.StateLaws.{requests-put}
 
@@ -180,7 +180,7 @@ module _ (st t : List ℕ) (ls : length st ≡ 1280) (l : length t ≡ players-w
               λ v.
               let s = stateOf st t in
               let k = ok-tables st t v ls l in
-              let f = nowhere-region (s .last) (s .requests) (k .few) (k .requests) Undelivered n stays (deliver s) (e ∙ ap (found Undelivered n) (words-are v)) in
+              let f = nowhere-region (s .last) (s .requests) (few-requests k) (k .requests) Undelivered n stays (deliver s) (e ∙ ap (found Undelivered n) (words-are v)) in
               sym (ap encoded f ∙ same-tables st t is-whole v (refusal no-such-request));
         }
 
@@ -190,14 +190,14 @@ module _ (st t : List ℕ) (ls : length st ≡ 1280) (l : length t ≡ players-w
         it-stands =
             let s = stateOf st t in
             let o = ok-tables st t v ls l in
-            found-stands (s .last) (s .requests) (o .few) (o .requests) Undelivered n k r (e ∙ ap (found Undelivered n) (words-are v))
+            found-stands (s .last) (s .requests) (few-requests o) (o .requests) Undelivered n k r (e ∙ ap (found Undelivered n) (words-are v))
 
         deliver-found : step (stateOf st t) (Deliver n) ≡ by-outcome (stateOf st t) r (performed r (stateOf st t .store))
         deliver-found =
             let s = stateOf st t in
             let o = ok-tables st t v ls l in
             let h = each-at _ 0 (s .requests) (o .requests) r (stands-in it-stands) in
-            found-region (s .last) (s .requests) (o .few) (o .requests) Undelivered n k r (e ∙ ap (found Undelivered n) (words-are v)) stays (deliver s)
+            found-region (s .last) (s .requests) (few-requests o) (o .requests) Undelivered n k r (e ∙ ap (found Undelivered n) (words-are v)) stays (deliver s)
             ∙ deliver-is s r (good-range (s .last) r h)
 
         settled-table : (a b : ℕ) (x : Store) → settled-words k (r .abandoned) a b t ≡ tableOf (settled (stateOf st t) r x a b .state)
@@ -210,7 +210,7 @@ module _ (st t : List ℕ) (ls : length st ≡ 1280) (l : length t ≡ players-w
             let rs : List Request = cond (r .abandoned) ds cs in
             ap (λ (w : List ℕ). putMid 8705 768 t (cond (r .abandoned) (without k w) (with-delivered k a b w))) (words-are v)
             ∙ ap (λ (w : List ℕ). putMid 8705 768 t w)
-            (one-region (r .abandoned) _ _ ds cs (without-region (s .last) (s .requests) (o .few) (o .requests) it-stands) (delivered-region (s .last) (s .requests) (o .few) (o .requests) it-stands a b))
+            (one-region (r .abandoned) _ _ ds cs (without-region (s .last) (s .requests) (few-requests o) (o .requests) it-stands) (delivered-region (s .last) (s .requests) (few-requests o) (o .requests) it-stands a b))
             ∙ ap (λ (u : List ℕ). putMid 8705 768 u (regionOf rs)) (sym (players-table-back st t v ls l))
             ∙ requests-put s (regionOf rs) rs refl
             ∙ sym (same-players (with-requests s rs) x)

@@ -1,7 +1,7 @@
 -- What a step does to the players' table, and the words that its code reads and writes.
 -- Assumes nothing.
 use mathlib.Core.Path.{_≡_}
-use mathlib.Core.Bool.{Bool, true, cond, not, _&&_}
+use mathlib.Core.Bool.{Bool, true, false, cond, not, _&&_}
 use mathlib.Core.List.{List}
 use Prim.Native.Nat.{ℕ, zero, suc, _+_, _-_, _*_}
 use lib.Dec.{T, ltb, eqb}
@@ -11,7 +11,7 @@ use Rattle.store.specs.Model.{bad-range}
 use Rattle.store.specs.declared.Range.{Range}
 use Rattle.store.specs.declared.Reply.{Reply}
 use Rattle.requests.specs.declared.Request.{Request}
-use Rattle.requests.specs.Calls.{with-request, with-abandoned, without}
+use Rattle.requests.specs.Calls.{with-request, with-abandoned, without, Crossing, crossing, crossed}
 use Rattle.players.specs.Replies.{out-of-range}
 use Rattle.players.specs.Rules.{State, Result, check, need-serial, set-owner}
 use Rattle.players.specs.Table.{epochs-at, guards-at, held-at, owners-at, requests-at, values-at, versions-at, stateOf, tableOf, valid}
@@ -52,6 +52,12 @@ unfoldable pub added : ℕ → Request → List ℕ → List ℕ
 added k r t =
     let u = set t 0 (r .serial) in
     putMid requests-at region-words u (with-request k r (take region-words (drop requests-at u)))
+
+-- the player's pending reads and writes on the entry are marked overlapped, if there are any; whether a write is among them
+unfoldable pub crossed-table : Bool → ℕ → ℕ → List ℕ → Crossing
+crossed-table b p e t =
+    let x = crossed p e (take region-words (drop requests-at t)) in
+    cond b (crossing (x .hit) (putMid requests-at region-words t (x .words))) (crossing false t)
 
 -- the request of place k leaves if it is delivered, and is abandoned if not
 unfoldable pub giving-up : ℕ → Bool → List ℕ → List ℕ

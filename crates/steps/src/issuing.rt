@@ -2,10 +2,10 @@
 use crate::cells;
 use crate::issued;
 use players::layout;
-use requests::Look;
 use requests::Request;
 use requests::kinds;
 use requests::region;
+use requests::shares;
 use store::Range;
 use store::Reply;
 use store::codes;
@@ -14,9 +14,10 @@ ghost use mathlib.Core.Path.{_≡_};
 ghost use lib.ListN.{length};
 ghost use mathlib.Core.Bool.{false};
 ghost use Rattle.requests.specs.Model.{new-request};
+ghost use Rattle.requests.specs.Calls.{crossing};
 ghost use Rattle.players.specs.declared.Step.the-variants.{Read, RequestGuard, Write};
 ghost use Rattle.players.specs.Rules.{step};
-ghost use Rattle.steps.specs.InnerWords.{Moves, added};
+ghost use Rattle.steps.specs.InnerWords.{Moves, added, crossed-table};
 ghost use Rattle.players.specs.Table.{players-words};
 
 // Adds a request at place `k`, the first that is not used; its serial is the last one issued.
@@ -100,14 +101,15 @@ pub(crate) fn request_guard(players: &mut [u32], player: u8, range: Range) -> Re
     ) {
         return refuse(codes::NOT_OWNER);
     }
-    let scan = region::scan(
-        &mut players[layout::REQUESTS..layout::REQUESTS_END],
-        Look::Requesting { player, range },
+    let scan = region::scan_requesting(
+        &players[layout::REQUESTS..layout::REQUESTS_END],
+        player,
+        range,
     );
     if scan.hit {
         return refuse(codes::ALREADY_REQUESTED);
     }
-    if scan.used >= requests::layout::PLACES {
+    if shares::is_full(scan.counts, player) {
         return refuse(codes::NO_PLACE_LEFT);
     }
     let last = players[layout::LAST];
@@ -136,7 +138,12 @@ pub(crate) fn read(players: &mut [u32], player: u8, entry: u8) -> Reply
             b: players[layout::CACHED_VALUES + i],
         };
     }
-    if region::is_full(&players[layout::REQUESTS..layout::REQUESTS_END]) {
+    let scan = region::scan_writing(
+        &players[layout::REQUESTS..layout::REQUESTS_END],
+        player,
+        entry,
+    );
+    if shares::is_full(scan.counts, player) {
         return refuse(codes::NO_PLACE_LEFT);
     }
     let last = players[layout::LAST];
@@ -144,16 +151,27 @@ pub(crate) fn read(players: &mut [u32], player: u8, entry: u8) -> Reply
         return refuse(codes::NO_SERIAL_LEFT);
     }
     let guard = cells::live_guard(players, player, entry);
-    let scan = region::scan(
-        &mut players[layout::REQUESTS..layout::REQUESTS_END],
-        Look::Writing { player, entry },
-    );
     add(
         players,
         scan.used,
         for_entry(last + 1, player, kinds::READ, entry, 0, guard, scan.hit),
     );
     issued(last + 1)
+}
+
+// Marks the player's pending reads and writes on the entry as overlapped, if there are any; whether a write is among them.
+fn cross(players: &mut [u32], any: bool, player: u8, entry: u8) -> bool
+    requires { ⌜ length (now players) ≡ players-words ⌝ }
+    ensures { λ r. ⌜ crossing r (now (players .exit)) ≡ crossed-table any player entry (now (players .entry)) ⌝ }
+{
+    if !any {
+        return false;
+    }
+    region::cross(
+        &mut players[layout::REQUESTS..layout::REQUESTS_END],
+        player,
+        entry,
+    )
 }
 
 // Step 5: needs ownership and a live guard, which the request carries.
@@ -172,7 +190,12 @@ pub(crate) fn write(players: &mut [u32], player: u8, entry: u8, value: u32) -> R
     if guard == 0 {
         return refuse(codes::NO_LIVE_GUARD);
     }
-    if region::is_full(&players[layout::REQUESTS..layout::REQUESTS_END]) {
+    let scan = region::scan_using(
+        &players[layout::REQUESTS..layout::REQUESTS_END],
+        player,
+        entry,
+    );
+    if shares::is_full(scan.counts, player) {
         return refuse(codes::NO_PLACE_LEFT);
     }
     let last = players[layout::LAST];
@@ -180,10 +203,7 @@ pub(crate) fn write(players: &mut [u32], player: u8, entry: u8, value: u32) -> R
         return refuse(codes::NO_SERIAL_LEFT);
     }
     cells::cache(players, player as usize * layout::ENTRIES + e, 0, 0, 0);
-    let scan = region::scan(
-        &mut players[layout::REQUESTS..layout::REQUESTS_END],
-        Look::Crossing { player, entry },
-    );
+    let overlapped = cross(players, scan.hit, player, entry);
     add(
         players,
         scan.used,
@@ -194,7 +214,7 @@ pub(crate) fn write(players: &mut [u32], player: u8, entry: u8, value: u32) -> R
             entry,
             value,
             guard,
-            scan.hit,
+            overlapped,
         ),
     );
     issued(last + 1)

@@ -2,9 +2,9 @@
 use crate::issued;
 use crate::issuing;
 use players::layout;
-use requests::Look;
 use requests::kinds;
 use requests::region;
+use requests::shares;
 use store::Reply;
 use store::codes;
 use store::layout::OPEN;
@@ -22,17 +22,18 @@ pub(crate) fn load(players: &mut [u32], entry: u8, value: u32) -> Reply
     ensures { λ r. ⌜ Moves (λ s. step s (Load entry value)) (now (players .entry)) r (now (players .exit)) ⌝ }
 {
     let player = requests::layout::LOADER;
-    if region::is_full(&players[layout::REQUESTS..layout::REQUESTS_END]) {
+    let scan = region::scan_writing(
+        &players[layout::REQUESTS..layout::REQUESTS_END],
+        player,
+        entry,
+    );
+    if shares::is_full(scan.counts, player) {
         return refuse(codes::NO_PLACE_LEFT);
     }
     let last = players[layout::LAST];
     if last >= layout::SERIALS {
         return refuse(codes::NO_SERIAL_LEFT);
     }
-    let scan = region::scan(
-        &mut players[layout::REQUESTS..layout::REQUESTS_END],
-        Look::Writing { player, entry },
-    );
     issuing::add(
         players,
         scan.used,

@@ -34,8 +34,9 @@ pub const ALREADY_REQUESTED: u32 = 31;
 
 pub const NO_SUCH_REQUEST: u32 = 32;
 
-pub const NO_PLACE_LEFT: u32 = 33;
-
 pub const NO_SERIAL_LEFT: u32 = 34;
 
 pub const WRONG_BOUNDARY: u32 = 35;
+
+// It takes the place of 33, which no call gives.
+pub const NO_PLACE_LEFT: u32 = 38;

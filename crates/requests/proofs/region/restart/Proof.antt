@@ -1,9 +1,11 @@
 -- `requests::region::restart` meets its contract. The loop's invariant: of the places passed, those that remain stand first.
 -- Assumes nothing.
-use mathlib.Core.Path.{sym, _∙_}
+use mathlib.Core.Path.{_≡_, sym, _∙_}
+use mathlib.Core.Bool.{false}
 use Prim.Native.Nat.{_≤_, _-_}
 use native.Mathlib.Omega.{arith}
-use Rattle.requests.proofs.RestartLaws.{Packed, pack-start, pack-on, pack-done, unused-place, used-place, restart-none}
+use Rattle.requests.proofs.RestartLaws.{Packed, pack-start, pack-on, pack-done, rest-none, restart-none}
+use Rattle.requests.proofs.ScanLaws.{from-none, is-used, place-used}
 use Rattle.requests.proofs.region.restart.Statement.{statement}
 use Rattle.requests.proofs.region.restart.Tie as tie
 
@@ -28,21 +30,18 @@ is-used-requires c κs = c .before .loop .inv .1 .long
 
 carry-requires : tie.Need-carry-requires Inv-loop μ-loop
 carry-requires c κs =
-    let a = c .before .before .before .before .before .before .before .args in
-    let u = used-place (a .player) (c .before .before .before .before .loop .region) (c .before .before .before .before .loop .k) (sym (c .before .before .is-used .ensures) ∙ c .before .if2 .taken) in (c .before .before .before .before .loop .inv .1 .order, u .0, c .before .before .before .before .loop .inv .1 .long)
+    let u = is-used (c .before .before .before .before .loop .region) (c .before .before .before .before .loop .k) (sym (c .before .before .is-used .ensures) ∙ c .before .if2 .taken) in (c .before .before .before .before .loop .inv .1 .order, u .0, c .before .before .before .before .loop .inv .1 .long)
 
 add-k : tie.Need-add-k Inv-loop μ-loop
 add-k c = omega arith
 
 loop-less : tie.Need-loop-less Inv-loop μ-loop
 loop-less c =
-    let a = c .before .before .before .before .before .before .before .before .before .before .args in
-    let u = used-place (a .player) (c .before .before .before .before .before .before .before .loop .region) (c .before .before .before .before .before .before .before .loop .k) (sym (c .before .before .before .before .before .is-used .ensures) ∙ c .before .before .before .before .if2 .taken) in omega arith
+    let u = is-used (c .before .before .before .before .before .before .before .loop .region) (c .before .before .before .before .before .before .before .loop .k) (sym (c .before .before .before .before .before .is-used .ensures) ∙ c .before .before .before .before .if2 .taken) in omega arith
 
 loop-again : tie.Need-loop-again Inv-loop μ-loop
 loop-again c =
-    let a = c .before .before .before .before .before .before .before .before .before .before .args in
-    let u = used-place (a .player) (c .before .before .before .before .before .before .before .loop .region) (c .before .before .before .before .before .before .before .loop .k) (sym (c .before .before .before .before .before .is-used .ensures) ∙ c .before .before .before .before .if2 .taken) in (omega arith, pack-on _ _ _ _ _ (c .before .before .before .before .before .before .before .loop .inv .1) (u .0) (u .1) _ _ (c .before .before .carry .ensures))
+    let u = is-used (c .before .before .before .before .before .before .before .loop .region) (c .before .before .before .before .before .before .before .loop .k) (sym (c .before .before .before .before .before .is-used .ensures) ∙ c .before .before .before .before .if2 .taken) in (omega arith, pack-on _ _ _ _ _ (c .before .before .before .before .before .before .before .loop .inv .1) (u .0) (u .1) _ _ (c .before .before .carry .ensures))
 
 mul-fill : tie.Need-mul-fill Inv-loop μ-loop
 mul-fill c = omega arith
@@ -71,7 +70,7 @@ same-length c = c .before .region2 .given .1 ∙ c .before .before .before .befo
 returns-2 : tie.Need-returns-2 Inv-loop μ-loop
 returns-2 c =
     let a = c .before .before .before .before .before .before .before .before .before .before .args in
-    let n = unused-place (a .player) (c .before .before .before .before .before .before .before .loop .region) (c .before .before .before .before .before .before .before .loop .k) (sym (c .before .before .before .before .before .is-used .ensures) ∙ c .before .before .before .before .if2 .left) in pack-done _ _ _ _ _ (c .before .before .before .before .before .before .before .loop .inv .1) (n .0) (n .1) (c .before .before .before .before .before .before .before .loop .inv .0) (c .before .before .before .before .before .before .before .before .if1 .left) _ (c .before .before .fill .ensures)
+    let n : place-used (c .before .before .before .before .before .before .before .loop .region) (c .before .before .before .before .before .before .before .loop .k) ≡ false = sym (c .before .before .before .before .before .is-used .ensures) ∙ c .before .before .before .before .if2 .left in pack-done _ _ _ _ _ (c .before .before .before .before .before .before .before .loop .inv .1) (from-none (c .before .before .before .before .before .before .before .loop .region) (c .before .before .before .before .before .before .before .loop .k) n) (rest-none (a .player) (c .before .before .before .before .before .before .before .loop .region) (c .before .before .before .before .before .before .before .loop .k) n) (c .before .before .before .before .before .before .before .loop .inv .0) (c .before .before .before .before .before .before .before .before .if1 .left) _ (c .before .before .fill .ensures)
 
 pub restart-spec : {M : Type 1} → statement M
 restart-spec =

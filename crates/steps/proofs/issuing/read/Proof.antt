@@ -50,14 +50,17 @@ returns-2 c =
     let a = c .before .before .before .before .before .before .before .args in
     read-hit (a .players .now) (c .before .before .before .before .before .before .before .pre) (a .player) (a .entry) (omega arith) (omega arith) (sym (c .before .before .if2 .taken) ∙ c .before .before .before .is-hit .ensures)
 
-sub-is-full : tie.Need-sub-is-full
-sub-is-full c = search needs
+sub-scan-writing : tie.Need-sub-scan-writing
+sub-scan-writing c = search needs
 
-part-is-full-start : tie.Need-part-is-full-start
-part-is-full-start c = search needs
+part-scan-writing-start : tie.Need-part-scan-writing-start
+part-scan-writing-start c = search needs
 
-part-is-full-end : tie.Need-part-is-full-end
-part-is-full-end c = search needs
+part-scan-writing-end : tie.Need-part-scan-writing-end
+part-scan-writing-end c = search needs
+
+scan-writing-requires : tie.Need-scan-writing-requires
+scan-writing-requires c κs = search needs
 
 is-full-requires : tie.Need-is-full-requires
 is-full-requires c κs = search needs
@@ -70,8 +73,13 @@ same-length-2 c = search needs
 
 returns-3 : tie.Need-returns-3
 returns-3 c =
-    let a = c .before .before .before .before .before .before .before .before .before .before .args in
-    read-full (a .players .now) (c .before .before .before .before .before .before .before .before .before .before .pre) (a .player) (a .entry) (omega arith) (omega arith) (sym (c .before .before .before .before .before .if2 .left) ∙ c .before .before .before .before .before .before .is-hit .ensures) (sym (c .before .if3 .taken) ∙ c .before .before .is-full .ensures) _ (c .refuse2 .ensures)
+    let i = c .before .before in
+    let s = i .before in
+    let e2 = s .before .before .before in
+    let e1 = e2 .before .before .before in
+    let x = e1 .before .before in
+    let a = x .args in
+    read-full (a .players .now) (x .pre) (a .player) (a .entry) (omega (arith, e1 .if1 .left)) (omega (arith, x .fits)) (sym (e2 .if2 .left) ∙ e2 .before .is-hit .ensures) (s .scan-writing .ensures) (i .is-full .ensures) (c .before .if3 .taken) _ (c .refuse2 .ensures)
 
 slice-read-last : tie.Need-slice-read-last
 slice-read-last c = search needs
@@ -84,53 +92,49 @@ same-length-3 c = search needs
 
 returns-4 : tie.Need-returns-4
 returns-4 c =
-    let a = c .before .before .before .before .before .before .before .before .before .before .before .before .args in
-    read-spent (a .players .now) (c .before .before .before .before .before .before .before .before .before .before .before .before .pre) (a .player) (a .entry) (omega arith) (omega arith) (sym (c .before .before .before .before .before .before .before .if2 .left) ∙ c .before .before .before .before .before .before .before .before .is-hit .ensures) (sym (c .before .before .before .if3 .left) ∙ c .before .before .before .before .is-full .ensures) (omega arith) _ (c .refuse3 .ensures)
+    let e3 = c .before .before .before in
+    let i = e3 .before in
+    let s = i .before in
+    let e2 = s .before .before .before in
+    let e1 = e2 .before .before .before in
+    let x = e1 .before .before in
+    let a = x .args in
+    read-spent (a .players .now) (x .pre) (a .player) (a .entry) (omega (arith, e1 .if1 .left)) (omega (arith, x .fits)) (sym (e2 .if2 .left) ∙ e2 .before .is-hit .ensures) (s .scan-writing .ensures) (i .is-full .ensures) (e3 .if3 .left) (omega (arith, c .before .if4 .taken)) _ (c .refuse3 .ensures)
 
 live-guard-requires : tie.Need-live-guard-requires
 live-guard-requires c κs = search needs
 
-sub-scan : tie.Need-sub-scan
-sub-scan c = search needs
-
-part-scan-start : tie.Need-part-scan-start
-part-scan-start c = search needs
-
-part-scan-end : tie.Need-part-scan-end
-part-scan-end c = search needs
-
-scan-requires : tie.Need-scan-requires
-scan-requires c κs = search needs
-
 add-for-entry : tie.Need-add-for-entry
-add-for-entry c = next-fits _ (c .before .before .before .before .before .before .before .if4 .left)
+add-for-entry c = next-fits _ (c .before .before .before .if4 .left)
 
 for-entry-requires : tie.Need-for-entry-requires
 for-entry-requires c κs = search needs
 
 add-requires : tie.Need-add-requires
-add-requires c κs = c .before .before .before .players2 .given .1 ∙ c .before .before .before .before .before .before .before .before .before .before .before .before .before .before .before .before .before .before .before .pre
+add-requires c κs = search needs
 
 add-issued : tie.Need-add-issued
-add-issued c = next-fits _ (c .before .before .before .before .before .before .before .before .before .before .before .if4 .left)
+add-issued c = next-fits _ (c .before .before .before .before .before .before .before .if4 .left)
 
 issued-requires : tie.Need-issued-requires
 issued-requires c κs = search needs
 
 same-length-4 : tie.Need-same-length-4
-same-length-4 c = c .before .before .before .add .kept .0 ∙ c .before .before .before .before .before .before .before .players2 .given .1
+same-length-4 c = search needs
 
 returns-5 : tie.Need-returns-5
 returns-5 c =
-    let v = c .before .before .before .before .before .before .before .before .before .before in
+    let v = c .before .before .before .before .before .before in
     let e4 = v .before .before in
     let e3 = e4 .before .before in
-    let e2 = e3 .before .before .before .before in
+    let i = e3 .before in
+    let s = i .before in
+    let e2 = s .before .before .before in
     let e1 = e2 .before .before .before in
     let x = e1 .before .before in
     let a = x .args in
-    read-done (a .players .now) (x .pre) (a .player) (a .entry) (omega (arith, e1 .if1 .left)) (omega (arith, x .fits)) (sym (e2 .if2 .left) ∙ e2 .before .is-hit .ensures) (sym (e3 .if3 .left) ∙ e3 .before .is-full .ensures) (omega (arith, e4 .if4 .left)) _ (v .live-guard .ensures)
-    _ _ (c .before .before .before .before .before .before .before .before .scan .ensures) _ (c .before .before .before .before .for-entry .ensures) _ (c .before .before .before .add .ensures) _ (c .issued .ensures)
+    read-done (a .players .now) (x .pre) (a .player) (a .entry) (omega (arith, e1 .if1 .left)) (omega (arith, x .fits)) (sym (e2 .if2 .left) ∙ e2 .before .is-hit .ensures) (s .scan-writing .ensures) (i .is-full .ensures) (e3 .if3 .left) (omega (arith, e4 .if4 .left)) _ (v .live-guard .ensures)
+    _ (c .before .before .before .before .for-entry .ensures) _ (c .before .before .before .add .ensures) _ (c .issued .ensures)
 
 pub read-spec : {M : Type 1} → statement M
 read-spec =
@@ -149,9 +153,10 @@ read-spec =
     slice-read-t22
     same-length
     returns-2
-    sub-is-full
-    part-is-full-start
-    part-is-full-end
+    sub-scan-writing
+    part-scan-writing-start
+    part-scan-writing-end
+    scan-writing-requires
     is-full-requires
     refuse-requires-2
     same-length-2
@@ -161,10 +166,6 @@ read-spec =
     same-length-3
     returns-4
     live-guard-requires
-    sub-scan
-    part-scan-start
-    part-scan-end
-    scan-requires
     add-for-entry
     for-entry-requires
     add-requires

@@ -1,12 +1,9 @@
 -- `steps::issuing::request_guard` meets its contract: a case at each return.
 -- Assumes nothing.
-use mathlib.Core.Path.{_≡_, refl, sym, _∙_}
+use mathlib.Core.Path.{refl, sym, _∙_}
 use lib.Dec.{lit≤}
-use lib.ListN.{length}
 use borrow.Author.Needs.{needs}
 use borrow.Author.Tests.{not-true, not-false}
-use borrow.Rule.Slice.PartMut.{putMid}
-use Rattle.players.specs.Table.{players-words}
 use Rattle.steps.proofs.IssuingLaws.{Cells, cells-of, Asks, has-last, has-requests, is-player, request-player, request-empty, request-high, request-owner, request-again, request-full, request-spent, next-fits, request-done}
 use Rattle.steps.proofs.issuing.request_guard.Statement.{statement}
 use Rattle.steps.proofs.issuing.request_guard.Tie as tie
@@ -30,10 +27,6 @@ asks c =
 
 cells : (c : tie.Else4) → Cells (start c .args .player) (start c .args .range .low) (start c .args .range .high)
 cells c = let k = asks c in cells-of _ _ _ (k .player) (k .some) (k .within)
-
--- the table is as long after they were
-whole : (c : tie.After-players) → length (putMid 8705 768 (start (c .before .before .before) .args .players .now) (c .before .scan .last .0)) ≡ players-words
-whole c = c .players .given .1 ∙ start (c .before .before .before) .pre
 
 refuse-requires : tie.Need-refuse-requires
 refuse-requires c κs = tt
@@ -95,68 +88,76 @@ returns-4 c =
     let a = x .args in
     request-owner (a .players .now) (x .pre) (a .player) (a .range) (is-player _ (e1 .if1 .left)) (e2 .if2 .left) (e3 .if3 .left) (sym (not-true _ (e4 .if4 .taken)) ∙ e4 .before .all-are .ensures) _ (c .refuse4 .ensures)
 
-sub-scan : tie.Need-sub-scan
-sub-scan c = lit≤ tt
+sub-scan-requesting : tie.Need-sub-scan-requesting
+sub-scan-requesting c = lit≤ tt
 
-part-scan-start : tie.Need-part-scan-start
-part-scan-start c = lit≤ tt
+part-scan-requesting-start : tie.Need-part-scan-requesting-start
+part-scan-requesting-start c = lit≤ tt
 
-part-scan-end : tie.Need-part-scan-end
-part-scan-end c = has-requests (start c .pre)
+part-scan-requesting-end : tie.Need-part-scan-requesting-end
+part-scan-requesting-end c = has-requests (start (c .before) .pre)
 
-scan-requires : tie.Need-scan-requires
-scan-requires c κs = tt
+scan-requesting-requires : tie.Need-scan-requesting-requires
+scan-requesting-requires c κs = tt
 
 refuse-requires-5 : tie.Need-refuse-requires-5
 refuse-requires-5 c κs = tt
 
 same-length-2 : tie.Need-same-length-2
-same-length-2 c = c .before .before .before .players .given .1
+same-length-2 c = refl
 
 returns-5 : tie.Need-returns-5
-returns-5 c = request-again (asks (c .before .before .before .before .before .before)) (c .before .before .before .before .scan .ensures) (c .before .if5 .taken) _ (c .refuse5 .ensures)
+returns-5 c =
+    let s = c .before .before in
+    request-again (asks (s .before .before .before)) (s .scan-requesting .ensures) (c .before .if5 .taken) _ (c .refuse5 .ensures)
+
+is-full-requires : tie.Need-is-full-requires
+is-full-requires c κs = tt
 
 refuse-requires-6 : tie.Need-refuse-requires-6
 refuse-requires-6 c κs = tt
 
 same-length-3 : tie.Need-same-length-3
-same-length-3 c = c .before .before .before .before .before .players .given .1
+same-length-3 c = refl
 
 returns-6 : tie.Need-returns-6
 returns-6 c =
-    let e5 = c .before .before .before in
-    let s = e5 .before .before .before in
-    request-full (asks (s .before .before)) (s .scan .ensures) (e5 .if5 .left) (c .before .if6 .taken) _ (c .refuse6 .ensures)
+    let i = c .before .before in
+    let e5 = i .before in
+    let s = e5 .before in
+    request-full (asks (s .before .before .before)) (s .scan-requesting .ensures) (e5 .if5 .left) (i .is-full .ensures) (c .before .if6 .taken) _ (c .refuse6 .ensures)
 
 slice-read-last : tie.Need-slice-read-last
-slice-read-last c = has-last (whole (c .before .before .before .before .before))
+slice-read-last c = has-last (start (c .before .before .before .before .before .before .before) .pre)
 
 refuse-requires-7 : tie.Need-refuse-requires-7
 refuse-requires-7 c κs = tt
 
 same-length-4 : tie.Need-same-length-4
-same-length-4 c = c .before .before .before .before .before .before .before .players .given .1
+same-length-4 c = refl
 
 returns-7 : tie.Need-returns-7
 returns-7 c =
     let e6 = c .before .before .before in
-    let e5 = e6 .before .before in
-    let s = e5 .before .before .before in
-    request-spent (asks (s .before .before)) (s .scan .ensures) (e5 .if5 .left) (e6 .if6 .left) (c .before .if7 .taken) _ (c .refuse7 .ensures)
+    let i = e6 .before in
+    let e5 = i .before in
+    let s = e5 .before in
+    request-spent (asks (s .before .before .before)) (s .scan-requesting .ensures) (e5 .if5 .left) (i .is-full .ensures) (e6 .if6 .left) (c .before .if7 .taken) _ (c .refuse7 .ensures)
 
 mul-i : tie.Need-mul-i
-mul-i c = cells (c .before .before .before .before .before .before .before .before .before) .row
+mul-i c = cells (c .before .before .before .before .before .before .before .before) .row
 
 add-clear : tie.Need-add-clear
-add-clear c = cells (c .before .before .before .before .before .before .before .before .before .before) .first
+add-clear c = cells (c .before .before .before .before .before .before .before .before .before) .first
 
 add-clear-2 : tie.Need-add-clear-2
-add-clear-2 c = cells (c .before .before .before .before .before .before .before .before .before .before) .last
+add-clear-2 c = cells (c .before .before .before .before .before .before .before .before .before) .last
 
 clear-requires : tie.Need-clear-requires
 clear-requires c κs =
-    let k = cells (c .before .before .before .before .before .before .before .before .before .before) in
-    (whole (c .before .before .before .before .before .before .before), k .ordered, k .inside)
+    let e4 = c .before .before .before .before .before .before .before .before .before in
+    let k = cells e4 in
+    (start e4 .pre, k .ordered, k .inside)
 
 add-for-guard : tie.Need-add-for-guard
 add-for-guard c = next-fits _ (c .before .before .before .before .before .if7 .left)
@@ -165,7 +166,7 @@ for-guard-requires : tie.Need-for-guard-requires
 for-guard-requires c κs = tt
 
 add-requires : tie.Need-add-requires
-add-requires c κs = c .before .before .before .before .clear .kept .0 ∙ whole (c .before .before .before .before .before .before .before .before .before .before .before .before)
+add-requires c κs = c .before .before .before .before .clear .kept .0 ∙ start (c .before .before .before .before .before .before .before .before .before .before .before .before .before .before) .pre
 
 add-issued : tie.Need-add-issued
 add-issued c = next-fits _ (c .before .before .before .before .before .before .before .before .before .if7 .left)
@@ -174,15 +175,16 @@ issued-requires : tie.Need-issued-requires
 issued-requires c κs = tt
 
 same-length-5 : tie.Need-same-length-5
-same-length-5 c = c .before .before .before .add .kept .0 ∙ c .before .before .before .before .before .before .before .before .clear .kept .0 ∙ c .before .before .before .before .before .before .before .before .before .before .before .before .before .before .before .before .players .given .1
+same-length-5 c = c .before .before .before .add .kept .0 ∙ c .before .before .before .before .before .before .before .before .clear .kept .0
 
 returns-8 : tie.Need-returns-8
 returns-8 c =
     let e7 = c .before .before .before .before .before .before .before .before .before .before in
     let e6 = e7 .before .before in
-    let e5 = e6 .before .before in
-    let s = e5 .before .before .before in
-    request-done (asks (s .before .before)) (s .scan .ensures) (e5 .if5 .left) (e6 .if6 .left) (e7 .if7 .left)
+    let i = e6 .before in
+    let e5 = i .before in
+    let s = e5 .before in
+    request-done (asks (s .before .before .before)) (s .scan-requesting .ensures) (e5 .if5 .left) (i .is-full .ensures) (e6 .if6 .left) (e7 .if7 .left)
     _ (c .before .before .before .before .before .before .before .before .clear .ensures) _ (c .before .before .before .before .for-guard .ensures) _ (c .before .before .before .add .ensures) _ (c .issued .ensures)
 
 pub request-guard-spec : {M : Type 1} → statement M
@@ -203,13 +205,14 @@ request-guard-spec =
     refuse-requires-4
     same-length
     returns-4
-    sub-scan
-    part-scan-start
-    part-scan-end
-    scan-requires
+    sub-scan-requesting
+    part-scan-requesting-start
+    part-scan-requesting-end
+    scan-requesting-requires
     refuse-requires-5
     same-length-2
     returns-5
+    is-full-requires
     refuse-requires-6
     same-length-3
     returns-6

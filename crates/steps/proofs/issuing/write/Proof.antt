@@ -1,6 +1,6 @@
 -- `steps::issuing::write` meets its contract: a case at each return.
 -- Assumes nothing.
-use mathlib.Core.Path.{_≡_, refl, sym, _∙_}
+use mathlib.Core.Path.{_≡_, refl, _∙_}
 use lib.Dec.{lit≤}
 use lib.ListN.{length}
 use borrow.Author.Needs.{needs}
@@ -9,14 +9,22 @@ use Rattle.steps.proofs.IssuingLaws.{has-last, has-requests, is-player,
 use Rattle.steps.proofs.issuing.write.Statement.{statement}
 use Rattle.steps.proofs.issuing.write.Tie as tie
 
+-- what is known where the requests have been looked at
+abbrev start : tie.After-is-full → tie.Start
+start c = c .before .before .before .before .before .before .before .before .before .before .before
+
 -- the cell that is cleared, and the table after it, which is as long
-cell : (c : tie.After-cache-arg) → Cell (c .before .before .before .before .before .before .before .before .before .before .before .before .before .before .args .player) (c .before .before .before .before .before .before .before .before .before .before .before .before .before .before .args .entry)
+cell : (c : tie.After-cache-arg) → Cell (start (c .before .before .before .before) .args .player) (start (c .before .before .before .before) .args .entry)
 cell c =
-    let x = c .before .before .before .before .before .before .before .before .before .before .before .before .before .before in
-    cell-of (x .args .player) (x .args .entry) (is-player _ (c .before .before .before .before .before .before .before .before .before .before .before .before .if1 .left)) (x .fits .entry .fits)
+    let x = start (c .before .before .before .before) in
+    cell-of (x .args .player) (x .args .entry) (is-player _ (c .before .before .before .before .before .before .before .before .before .before .before .before .before .if1 .left)) (x .fits .entry .fits)
 
 whole : (c : tie.After-cache) → length (c .cache .last .0) ≡ players-words
-whole c = c .cache .kept .0 ∙ c .before .before .before .before .before .before .before .before .before .before .before .before .before .before .before .pre
+whole c = c .cache .kept .0 ∙ start (c .before .before .before .before .before) .pre
+
+-- and after the marks
+marked : (c : tie.After-cross) → length (c .cross .last .0) ≡ players-words
+marked c = c .cross .kept .0 ∙ whole (c .before .before .before .before)
 
 refuse-requires : tie.Need-refuse-requires
 refuse-requires c κs = tt
@@ -66,14 +74,17 @@ returns-3 c =
     let a = x .args in
     write-dead (a .players .now) (x .pre) (a .player) (a .entry) (a .value) (is-player _ (e1 .if1 .left)) (x .fits .entry .fits) (e2 .if2 .left) _ (g .live-guard .ensures) (c .before .if3 .taken) _ (c .refuse3 .ensures)
 
-sub-is-full : tie.Need-sub-is-full
-sub-is-full c = lit≤ tt
+sub-scan-using : tie.Need-sub-scan-using
+sub-scan-using c = lit≤ tt
 
-part-is-full-start : tie.Need-part-is-full-start
-part-is-full-start c = lit≤ tt
+part-scan-using-start : tie.Need-part-scan-using-start
+part-scan-using-start c = lit≤ tt
 
-part-is-full-end : tie.Need-part-is-full-end
-part-is-full-end c = has-requests (c .before .before .before .before .before .before .before .before .pre)
+part-scan-using-end : tie.Need-part-scan-using-end
+part-scan-using-end c = has-requests (c .before .before .before .before .before .before .before .before .pre)
+
+scan-using-requires : tie.Need-scan-using-requires
+scan-using-requires c κs = tt
 
 is-full-requires : tie.Need-is-full-requires
 is-full-requires c κs = tt
@@ -86,17 +97,18 @@ same-length-2 c = refl
 
 returns-4 : tie.Need-returns-4
 returns-4 c =
-    let f = c .before .before in
-    let e3 = f .before .before .before in
+    let i = c .before .before in
+    let s = i .before in
+    let e3 = s .before .before .before in
     let g = e3 .before in
     let e2 = g .before .before in
     let e1 = e2 .before .before in
     let x = e1 .before .before in
     let a = x .args in
-    write-full (a .players .now) (x .pre) (a .player) (a .entry) (a .value) (is-player _ (e1 .if1 .left)) (x .fits .entry .fits) (e2 .if2 .left) _ (g .live-guard .ensures) (e3 .if3 .left) (sym (c .before .if4 .taken) ∙ f .is-full .ensures) _ (c .refuse4 .ensures)
+    write-full (a .players .now) (x .pre) (a .player) (a .entry) (a .value) (is-player _ (e1 .if1 .left)) (x .fits .entry .fits) (e2 .if2 .left) _ (g .live-guard .ensures) (e3 .if3 .left) (s .scan-using .ensures) (i .is-full .ensures) (c .before .if4 .taken) _ (c .refuse4 .ensures)
 
 slice-read-last : tie.Need-slice-read-last
-slice-read-last c = has-last (c .before .before .before .before .before .before .before .before .before .before .before .before .pre)
+slice-read-last c = has-last (start (c .before .before) .pre)
 
 refuse-requires-5 : tie.Need-refuse-requires-5
 refuse-requires-5 c κs = tt
@@ -107,14 +119,15 @@ same-length-3 c = refl
 returns-5 : tie.Need-returns-5
 returns-5 c =
     let e4 = c .before .before .before in
-    let f = e4 .before in
-    let e3 = f .before .before .before in
+    let i = e4 .before in
+    let s = i .before in
+    let e3 = s .before .before .before in
     let g = e3 .before in
     let e2 = g .before .before in
     let e1 = e2 .before .before in
     let x = e1 .before .before in
     let a = x .args in
-    write-spent (a .players .now) (x .pre) (a .player) (a .entry) (a .value) (is-player _ (e1 .if1 .left)) (x .fits .entry .fits) (e2 .if2 .left) _ (g .live-guard .ensures) (e3 .if3 .left) (sym (e4 .if4 .left) ∙ f .is-full .ensures) (c .before .if5 .taken) _ (c .refuse5 .ensures)
+    write-spent (a .players .now) (x .pre) (a .player) (a .entry) (a .value) (is-player _ (e1 .if1 .left)) (x .fits .entry .fits) (e2 .if2 .left) _ (g .live-guard .ensures) (e3 .if3 .left) (s .scan-using .ensures) (i .is-full .ensures) (e4 .if4 .left) (c .before .if5 .taken) _ (c .refuse5 .ensures)
 
 mul-cache : tie.Need-mul-cache
 mul-cache c = cell c .row
@@ -123,19 +136,10 @@ add-cache : tie.Need-add-cache
 add-cache c = cell c .index
 
 cache-requires : tie.Need-cache-requires
-cache-requires c κs = (c .before .before .before .before .before .before .before .before .before .before .before .before .before .before .pre, cell c .inside)
+cache-requires c κs = (start (c .before .before .before .before) .pre, cell c .inside)
 
-sub-scan : tie.Need-sub-scan
-sub-scan c = lit≤ tt
-
-part-scan-start : tie.Need-part-scan-start
-part-scan-start c = lit≤ tt
-
-part-scan-end : tie.Need-part-scan-end
-part-scan-end c = has-requests (whole (c .before .before))
-
-scan-requires : tie.Need-scan-requires
-scan-requires c κs = tt
+cross-requires : tie.Need-cross-requires
+cross-requires c κs = whole (c .before .before .before)
 
 add-for-entry : tie.Need-add-for-entry
 add-for-entry c = next-fits _ (c .before .before .before .before .before .before .before .before .before .if5 .left)
@@ -144,7 +148,7 @@ for-entry-requires : tie.Need-for-entry-requires
 for-entry-requires c κs = tt
 
 add-requires : tie.Need-add-requires
-add-requires c κs = c .before .before .before .players3 .given .1 ∙ whole (c .before .before .before .before .before .before .before .before)
+add-requires c κs = marked (c .before .before .before .before)
 
 add-issued : tie.Need-add-issued
 add-issued c = next-fits _ (c .before .before .before .before .before .before .before .before .before .before .before .before .before .if5 .left)
@@ -153,23 +157,24 @@ issued-requires : tie.Need-issued-requires
 issued-requires c κs = tt
 
 same-length-4 : tie.Need-same-length-4
-same-length-4 c = c .before .before .before .add .kept .0 ∙ c .before .before .before .before .before .before .before .players3 .given .1 ∙ c .before .before .before .before .before .before .before .before .before .before .before .before .cache .kept .0
+same-length-4 c = c .before .before .before .add .kept .0 ∙ c .before .before .before .before .before .before .before .before .cross .kept .0 ∙ c .before .before .before .before .before .before .before .before .before .before .before .before .cache .kept .0
 
 returns-6 : tie.Need-returns-6
 returns-6 c =
-    let s = c .before .before .before .before .before .before .before .before in
-    let h = s .before .before .before .before in
+    let k = c .before .before .before .before .before .before .before .before in
+    let h = k .before .before .before .before in
     let e5 = h .before .before in
     let e4 = e5 .before .before in
-    let f = e4 .before in
-    let e3 = f .before .before .before in
+    let i = e4 .before in
+    let s = i .before in
+    let e3 = s .before .before .before in
     let g = e3 .before in
     let e2 = g .before .before in
     let e1 = e2 .before .before in
     let x = e1 .before .before in
     let a = x .args in
-    write-done (a .players .now) (x .pre) (a .player) (a .entry) (a .value) (is-player _ (e1 .if1 .left)) (x .fits .entry .fits) (e2 .if2 .left) _ (g .live-guard .ensures) (e3 .if3 .left) (sym (e4 .if4 .left) ∙ f .is-full .ensures) (e5 .if5 .left)
-    _ (h .cache .ensures) _ _ (s .scan .ensures) _ (c .before .before .before .before .for-entry .ensures) _ (c .before .before .before .add .ensures) _ (c .issued .ensures)
+    write-done (a .players .now) (x .pre) (a .player) (a .entry) (a .value) (is-player _ (e1 .if1 .left)) (x .fits .entry .fits) (e2 .if2 .left) _ (g .live-guard .ensures) (e3 .if3 .left) (s .scan-using .ensures) (i .is-full .ensures) (e4 .if4 .left) (e5 .if5 .left)
+    _ (h .cache .ensures) _ _ (k .cross .ensures) _ (c .before .before .before .before .for-entry .ensures) _ (c .before .before .before .add .ensures) _ (c .issued .ensures)
 
 pub write-spec : {M : Type 1} → statement M
 write-spec =
@@ -186,9 +191,10 @@ write-spec =
     refuse-requires-3
     same-length
     returns-3
-    sub-is-full
-    part-is-full-start
-    part-is-full-end
+    sub-scan-using
+    part-scan-using-start
+    part-scan-using-end
+    scan-using-requires
     is-full-requires
     refuse-requires-4
     same-length-2
@@ -200,10 +206,7 @@ write-spec =
     mul-cache
     add-cache
     cache-requires
-    sub-scan
-    part-scan-start
-    part-scan-end
-    scan-requires
+    cross-requires
     add-for-entry
     for-entry-requires
     add-requires
