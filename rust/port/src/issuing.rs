@@ -2,7 +2,7 @@
 
 use calls::{Range, Reply, Request};
 
-use crate::{cells, ends, issued, region, SERIALS};
+use crate::{cells, ends, issued, region, shares, SERIALS};
 
 /// Adds a request at place `k`, the first that is not used; its serial is the last one issued.
 fn add(players: &mut [u32], k: usize, r: Request) {
@@ -21,11 +21,11 @@ pub fn request_guard(players: &mut [u32], player: u8, range: Range) -> Reply {
     if !cells::all_are(&players[1 + low..1 + high], u32::from(player)) {
         return Reply::refused(29);
     }
-    let scan = region::scan_requests(&players[8705..9473], player, range);
+    let scan = region::scan_requesting(&players[8705..9473], player, range);
     if scan.hit {
         return Reply::refused(31);
     }
-    if scan.full {
+    if shares::is_full(scan.counts, player) {
         return Reply::refused(38);
     }
     let last = players[0];
@@ -55,8 +55,8 @@ pub fn read(players: &mut [u32], player: u8, entry: u8) -> Reply {
     if cells::is_hit(players, player, entry) {
         return Reply::new(2, players[4609 + i], players[6657 + i]);
     }
-    let scan = region::scan_writes(&players[8705..9473], player, entry);
-    if scan.full {
+    let scan = region::scan_writing(&players[8705..9473], player, entry);
+    if shares::is_full(scan.counts, player) {
         return Reply::refused(38);
     }
     let last = players[0];
@@ -90,8 +90,8 @@ pub fn write(players: &mut [u32], player: u8, entry: u8, value: u32) -> Reply {
     if guard == 0 {
         return Reply::refused(30);
     }
-    let scan = region::scan_uses(&players[8705..9473], player, entry);
-    if scan.full {
+    let scan = region::scan_using(&players[8705..9473], player, entry);
+    if shares::is_full(scan.counts, player) {
         return Reply::refused(38);
     }
     let last = players[0];
@@ -99,7 +99,7 @@ pub fn write(players: &mut [u32], player: u8, entry: u8, value: u32) -> Reply {
         return Reply::refused(34);
     }
     cells::cache(players, usize::from(player) * 256 + e, 0, 0, 0);
-    let crossed = scan.hit && region::cross(&mut players[8705..9473], player, entry);
+    let overlapped = scan.hit && region::cross(&mut players[8705..9473], player, entry);
     let request = Request {
         serial: last + 1,
         player,
@@ -107,7 +107,7 @@ pub fn write(players: &mut [u32], player: u8, entry: u8, value: u32) -> Reply {
         low: entry,
         value,
         guard,
-        overlapped: u8::from(crossed),
+        overlapped: u8::from(overlapped),
         ..Request::default()
     };
     add(players, scan.used, request);

@@ -11,6 +11,7 @@
 
 mod cells;
 mod exports;
+mod fields;
 mod guards;
 mod issuing;
 mod leaving;

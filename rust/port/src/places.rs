@@ -1,27 +1,33 @@
-//! One place of the requests region: 12 words, which hold a request; and tests of one request.
+//! One place of the requests region: 12 words, which hold a request; and tests of one request, by its place,
+//! of which most end at the first word that they read, or once it has been read.
 
 use calls::{Range, Request};
 
 use crate::words::are_zero;
-use crate::{shares, LOADER};
+use crate::{fields, shares, LOADER};
 
 /// The request of place `k`.
 pub fn request_at(region: &[u32], k: usize) -> Request {
     let words = &region[k * 12..k * 12 + 12];
     Request {
         serial: words[0],
-        player: (words[1] % 256) as u8,
-        kind: (words[2] % 256) as u8,
-        low: (words[3] % 256) as u8,
-        high: (words[4] % 65536) as u16,
+        player: fields::byte(words[1]),
+        kind: fields::byte(words[2]),
+        low: fields::byte(words[3]),
+        high: fields::half(words[4]),
         value: words[5],
         guard: words[6],
-        overlapped: u8::from(words[7] == 1),
-        delivered: u8::from(words[8] == 1),
-        abandoned: u8::from(words[9] == 1),
+        overlapped: u8::from(fields::flag(words[7])),
+        delivered: u8::from(fields::flag(words[8])),
+        abandoned: u8::from(fields::flag(words[9])),
         first: words[10],
         second: words[11],
     }
+}
+
+/// Whether there is a place `k`, and it is used.
+pub fn is_used(region: &[u32], k: usize) -> bool {
+    k < 64 && region[k * 12] != 0
 }
 
 /// Makes place `k` hold `r`.
@@ -48,6 +54,13 @@ pub fn close(region: &mut [u32], k: usize) {
     region[756..768].fill(0);
 }
 
+/// Marks the request of place `k` as overlapped if it is a pending read or write of the player on the entry.
+pub fn overlap(region: &mut [u32], k: usize, player: u8, entry: u8) {
+    if is_using(region, k, player, entry) {
+        region[k * 12 + 7] = 1;
+    }
+}
+
 /// Carries the request of place `k` over to place `j` if it remains when the player restarts. The
 /// place for the next one.
 pub fn carry(region: &mut [u32], j: usize, k: usize, player: u8) -> usize {
@@ -64,23 +77,29 @@ pub fn carry(region: &mut [u32], j: usize, k: usize, player: u8) -> usize {
     j + 1
 }
 
-/// A pending guard request of the player that shares an entry with the range.
-pub fn is_requesting(r: Request, player: u8, range: Range) -> bool {
-    r.abandoned == 0
-        && r.kind == 3
-        && r.player == player
-        && u16::from(r.low) < range.high
-        && u16::from(range.low) < r.high
+/// Whether place `k` holds a pending guard request of the player that shares an entry with the range.
+pub fn is_requesting(region: &[u32], k: usize, player: u8, range: Range) -> bool {
+    fields::player(region, k) == player
+        && fields::kind(region, k) == 3
+        && !fields::abandoned(region, k)
+        && u16::from(fields::low(region, k)) < range.high
+        && u16::from(range.low) < fields::high(region, k)
 }
 
-/// A pending write of the player on the entry.
-pub fn is_writing(r: Request, player: u8, entry: u8) -> bool {
-    r.abandoned == 0 && r.kind == 5 && r.player == player && r.low == entry
+/// Whether place `k` holds a pending write of the player on the entry.
+pub fn is_writing(region: &[u32], k: usize, player: u8, entry: u8) -> bool {
+    fields::low(region, k) == entry
+        && fields::player(region, k) == player
+        && fields::kind(region, k) == 5
+        && !fields::abandoned(region, k)
 }
 
-/// A pending read or write of the player on the entry.
-pub fn is_using(r: Request, player: u8, entry: u8) -> bool {
-    r.abandoned == 0 && r.kind != 3 && r.player == player && r.low == entry
+/// Whether place `k` holds a pending read or write of the player on the entry.
+pub fn is_using(region: &[u32], k: usize, player: u8, entry: u8) -> bool {
+    fields::low(region, k) == entry
+        && fields::player(region, k) == player
+        && fields::kind(region, k) != 3
+        && !fields::abandoned(region, k)
 }
 
 /// Whether a request remains when the player restarts: all but those of its pending ones that are
@@ -152,20 +171,20 @@ fn words_fit(words: &[u32]) -> bool {
         & (words[9] <= 1)
 }
 
-/// Whether the 64 places keep the rules, the shares among them.
+/// Whether the 64 places keep the rules, and the players their shares of them.
 pub fn places_hold(region: &[u32], last: u32) -> bool {
+    let mut counts = 0;
     let mut serial = 0;
-    let mut counts = [0; 9];
     let mut k = 0;
-    while k < 64 && region[k * 12] != 0 {
+    while is_used(region, k) {
         let words = &region[k * 12..k * 12 + 12];
         let r = request_at(region, k);
         if r.serial <= serial || !words_fit(words) || !request_holds(r, last) {
             return false;
         }
-        shares::count(&mut counts, r.player);
+        counts += shares::unit(r.player);
         serial = r.serial;
         k += 1;
     }
-    are_zero(&region[k * 12..]) && shares::common(&counts) <= 16
+    are_zero(&region[k * 12..]) && shares::are_kept(counts)
 }

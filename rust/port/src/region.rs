@@ -4,18 +4,19 @@
 use calls::{Range, Request};
 
 use crate::places::{
-    carry, close, is_requesting, is_using, is_writing, places_hold, put_request, request_at,
+    carry, close, is_requesting, is_used, is_using, is_writing, overlap, places_hold, put_request,
+    request_at,
 };
-use crate::shares;
+use crate::{fields, shares};
 
 const REGION: usize = 768;
 
-/// What a pass over the requests tells: how many there are, whether one is of the kind that is looked for,
-/// and whether the player finds no place for another.
+/// What a pass over the requests tells: how many there are, whether one is of those that are looked for, and
+/// how many each player has (`shares::is_full`).
 pub struct Scan {
     pub used: usize,
     pub hit: bool,
-    pub full: bool,
+    pub counts: u64,
 }
 
 /// Whether a region keeps the rules, where `last` is the last serial issued.
@@ -38,33 +39,32 @@ pub fn find(region: &[u32], serial: u32) -> Option<(usize, Request)> {
     None
 }
 
-fn scan(region: &[u32], player: u8, test: impl Fn(Request) -> bool) -> Scan {
-    let (mut used, mut hit, mut counts) = (0, false, [0; 9]);
+/// A pass over all requests, compiled once for each of the three tests below.
+fn scan(region: &[u32], test: impl Fn(usize) -> bool) -> Scan {
+    let (mut used, mut hit, mut counts) = (0, false, 0);
     if region.len() == REGION {
-        while used < 64 && region[used * 12] != 0 {
-            let r = request_at(region, used);
-            hit |= test(r);
-            shares::count(&mut counts, r.player);
+        while is_used(region, used) {
+            hit |= test(used);
+            counts += shares::unit(fields::player(region, used));
             used += 1;
         }
     }
-    let full = shares::are_full(&counts, player);
-    Scan { used, hit, full }
+    Scan { used, hit, counts }
 }
 
-/// Scans for a pending guard request of the player that shares an entry with the range.
-pub fn scan_requests(region: &[u32], player: u8, range: Range) -> Scan {
-    scan(region, player, |r| is_requesting(r, player, range))
+/// Step 3 looks for a pending guard request of the player that shares an entry with the range.
+pub fn scan_requesting(region: &[u32], player: u8, range: Range) -> Scan {
+    scan(region, |k| is_requesting(region, k, player, range))
 }
 
-/// Scans for a pending write of the player on the entry.
-pub fn scan_writes(region: &[u32], player: u8, entry: u8) -> Scan {
-    scan(region, player, |r| is_writing(r, player, entry))
+/// Step 4 looks for a pending write of the player on the entry.
+pub fn scan_writing(region: &[u32], player: u8, entry: u8) -> Scan {
+    scan(region, |k| is_writing(region, k, player, entry))
 }
 
-/// Scans for a pending read or write of the player on the entry.
-pub fn scan_uses(region: &[u32], player: u8, entry: u8) -> Scan {
-    scan(region, player, |r| is_using(r, player, entry))
+/// Step 5 looks for a pending read or write of the player on the entry.
+pub fn scan_using(region: &[u32], player: u8, entry: u8) -> Scan {
+    scan(region, |k| is_using(region, k, player, entry))
 }
 
 /// Makes place `k` hold `r`.
@@ -97,21 +97,18 @@ pub fn remove(region: &mut [u32], k: usize) {
     }
 }
 
-/// Marks the player's pending reads and writes on the entry as overlapped. Whether a write was among them.
+/// Marks the player's pending reads and writes on the entry as overlapped; whether a write is among them.
 pub fn cross(region: &mut [u32], player: u8, entry: u8) -> bool {
-    let mut crossed = false;
+    let mut hit = false;
     if region.len() == REGION {
         let mut k = 0;
-        while k < 64 && region[k * 12] != 0 {
-            let r = request_at(region, k);
-            if is_using(r, player, entry) {
-                crossed |= r.kind == 5;
-                region[k * 12 + 7] = 1;
-            }
+        while is_used(region, k) {
+            hit |= is_writing(region, k, player, entry);
+            overlap(region, k, player, entry);
             k += 1;
         }
     }
-    crossed
+    hit
 }
 
 /// Gives up the player's pending requests: those delivered leave, the others are abandoned.
@@ -120,7 +117,7 @@ pub fn restart(region: &mut [u32], player: u8) {
         return;
     }
     let (mut j, mut k) = (0, 0);
-    while k < 64 && region[k * 12] != 0 {
+    while is_used(region, k) {
         j = carry(region, j, k, player);
         k += 1;
     }
