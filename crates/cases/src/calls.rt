@@ -27,7 +27,10 @@ const KEEP: u8 = b'k';
 // `ahead KIND PLAYER ENTRY HIGH VALUE SERIAL`: a preview of a step, and whether each table is what it was.
 const AHEAD: u8 = b'a';
 
-// `reads TIMES`: player 0 reads entry 0 so many times; nothing is printed.
+// `check`: a test of the tables, a run over a session without records and its preview, and whether each table is what it was.
+const CHECK: u8 = b'c';
+
+// `reads TIMES PLAYER`: the player, 0 where none is named, reads entry 0 so many times; nothing is printed.
 const READS: u8 = b'r';
 
 // `store PLACE WORD`, `players PLACE WORD`: a word of a table is changed.
@@ -72,7 +75,8 @@ fn call(line: Line, store: &mut [u32; STORE], players: &mut [u32; PLAYERS]) {
         TAKE => take(n, TAKE, store, players),
         KEEP => take(n, KEEP, store, players),
         AHEAD => take(n, AHEAD, store, players),
-        READS => trial::reads(store, players, n[0]),
+        CHECK => trial::same_check(store, players),
+        READS => trial::reads(store, players, n[0], (n[1] % 256) as u8),
         STORE_WORD => trial::put(store, n[0], n[1]),
         PLAYERS_WORD => trial::put(players, n[0], n[1]),
         LEND => trial::same_part(store, n[0], players, n[1]),

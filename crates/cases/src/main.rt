@@ -11,7 +11,7 @@ use crate::lengths::PLAYERS;
 use crate::lengths::STORE;
 
 // Room for the calls.
-const ROOM: usize = 8192;
+const ROOM: usize = 12288;
 
 // Takes the calls of a text in turn.
 fn play(text: &[u8], store: &mut [u32; STORE], players: &mut [u32; PLAYERS]) {

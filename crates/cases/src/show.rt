@@ -1,5 +1,6 @@
 // Text on standard output, in the documents' words.
 use players::Step;
+use session::Report;
 use session::kinds;
 use session::kinds::fields_of;
 use session::records;
@@ -80,6 +81,14 @@ pub(crate) fn reply(r: Reply) {
     number(r.code);
     number(r.a);
     number(r.b);
+}
+
+// A report: why a run stopped, the records taken and the place after them.
+pub(crate) fn report(r: Report) {
+    say(b":");
+    number(r.why);
+    number(r.records);
+    number(r.place);
 }
 
 // A word that is put into a table.

@@ -3,9 +3,14 @@ use crate::lengths::PLAYERS;
 use crate::lengths::STORE;
 use crate::show;
 use players::Step;
+use steps::previews;
+use steps::running;
 use store::words;
 ghost use mathlib.Core.Path.{_≡_};
 ghost use mathlib.Core.Bool.{true};
+
+// A session without records: its mark.
+const EMPTY: [u8; 4] = *b"RSL1";
 
 // Makes the tables fresh.
 pub(crate) fn fresh(store: &mut [u32; STORE], players: &mut [u32; PLAYERS]) {
@@ -20,18 +25,16 @@ pub(crate) fn step(store: &mut [u32; STORE], players: &mut [u32; PLAYERS], next:
     show::say(b"\n");
 }
 
-// Player 0 reads entry 0 so many times; nothing is shown.
-pub(crate) fn reads(store: &mut [u32; STORE], players: &mut [u32; PLAYERS], times: u32) {
+// The player reads entry 0 so many times; nothing is shown.
+pub(crate) fn reads(
+    store: &mut [u32; STORE],
+    players: &mut [u32; PLAYERS],
+    times: u32,
+    player: u8,
+) {
     let mut k: u32 = 0;
     while k < times {
-        steps::step(
-            store,
-            players,
-            Step::Read {
-                player: 0,
-                entry: 0,
-            },
-        );
+        steps::step(store, players, Step::Read { player, entry: 0 });
         k += 1;
     }
 }
@@ -57,6 +60,30 @@ pub(crate) fn same_step(
     show::say(b"\n");
 }
 
+// Tests the tables, runs over a session without records and previews that, and says whether each table is what it was.
+pub(crate) fn same_check(store: &mut [u32; STORE], players: &mut [u32; PLAYERS]) {
+    let mut store_before = [0u32; STORE];
+    let mut players_before = [0u32; PLAYERS];
+    words::copy(&mut store_before, store);
+    words::copy(&mut players_before, players);
+    tests_shown(store, players);
+    same(store, &store_before);
+    same(players, &players_before);
+    show::say(b"\n");
+}
+
+// What the tables' test replies, and what a run over a session without records reports, and its preview.
+fn tests_shown(store: &mut [u32], players: &mut [u32]) {
+    let session = EMPTY;
+    let mut replies = [0u32; 3];
+    show::say(b"check");
+    show::reply(players::check(store, players));
+    show::say(b", run");
+    show::report(running::run(store, players, &session, 1, &mut replies));
+    show::say(b", ahead run");
+    show::report(previews::preview_run(store, players, &session, 1, &mut replies));
+}
+
 // A step and its reply.
 fn step_shown(store: &mut [u32], players: &mut [u32], next: Step) {
     show::step(next);
@@ -67,7 +94,7 @@ fn step_shown(store: &mut [u32], players: &mut [u32], next: Step) {
 fn preview_shown(store: &[u32], players: &[u32], next: Step) {
     show::say(b"ahead ");
     show::step(next);
-    show::reply(steps::previews::preview(store, players, next));
+    show::reply(previews::preview(store, players, next));
 }
 
 // Lends the first words alone, of tables in which every word is 7, and says whether each table is what it was.

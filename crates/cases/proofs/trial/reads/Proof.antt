@@ -7,10 +7,10 @@ use Rattle.cases.proofs.trial.reads.Statement.{statement}
 use Rattle.cases.proofs.trial.reads.Tie as tie
 
 abbrev Inv-loop : tie.InvT-loop
-Inv-loop store₀ players₀ times k₀ store players k = k ≤ times
+Inv-loop store₀ players₀ times player k₀ store players k = k ≤ times
 
 abbrev μ-loop : tie.MeasureT-loop
-μ-loop store₀ players₀ times k₀ store players k = times - k
+μ-loop store₀ players₀ times player k₀ store players k = times - k
 
 loop-holds : tie.Need-loop-holds Inv-loop μ-loop
 loop-holds c = omega arith
