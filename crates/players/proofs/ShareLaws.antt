@@ -15,10 +15,10 @@ use Rattle.requests.specs.declared.Request.{Request}
 use Rattle.requests.specs.Model.{places, loader, any, requesting, by, pending, serial-is, using-entry, keep, drop-request, change-request, mark-overlapped, mark-delivered, mark-abandoned}
 use Rattle.requests.specs.Shares.{own-places, common-places, count-by, common-used, no-place}
 use Rattle.requests.proofs.Basics.{both-left, both-right, cond-elim}
-use Rattle.requests.proofs.ShareLaws.{Shares, NoMore, keep-no-more, choice-count, changed-count, common-no-more, as-many-shares, own-place-left, appended-shares}
+use Rattle.requests.proofs.ShareLaws.{Shares, choice-count, as-many-shares, kept-shares, changed-shares, own-place-left, appended-shares}
 use Rattle.players.specs.declared.Step.{Step}
 use Rattle.players.specs.declared.Step.the-variants.{RequestGuard, Read, Write, Load}
-use Rattle.players.specs.Replies.{out-of-range, not-owner, no-live-guard, already-requested, no-place-left, no-serial-left}
+use Rattle.players.specs.Replies.{issued, out-of-range, not-owner, no-live-guard, already-requested, no-place-left, no-serial-left}
 use Rattle.players.specs.Rules.{State, Result, check, need-place, need-serial, players, all-entries, owns, live, cache-hit, read-from-cache, request-guard, read-from-store, write, load, step}
 use Rattle.players.specs.Table.{stateOf, valid}
 use Rattle.players.specs.Calls.{Done, whole, called}
@@ -34,14 +34,11 @@ module _ (s : State) where
   abbrev Keeps : Step → Result → Type 0
   Keeps x r = Shares (s .requests) → Shares (r .state .requests)
 
-  fewer : (f : Request → Bool) → Shares (s .requests) → Shares (keep f (s .requests))
-  fewer f k = let a = common-no-more (s .requests) (keep f (s .requests)) (keep-no-more f (s .requests)) in omega arith
-
   gone : (n : ℕ) → Shares (s .requests) → Shares (drop-request n (s .requests))
-  gone n = fewer (λ q. not (serial-is n q))
+  gone n = kept-shares (λ q. not (serial-is n q)) (s .requests)
 
   changed : (n : ℕ) (f : Request → Request) → ((q : Request) → f q .player ≡ q .player) → Shares (s .requests) → Shares (change-request n f (s .requests))
-  changed n f h = as-many-shares (s .requests) (change-request n f (s .requests)) (changed-count n f h (s .requests))
+  changed n f h = changed-shares n f h (s .requests)
 
   arrived : (r : Request) (a b : ℕ) → Shares (s .requests) → Shares (cond (r .abandoned) (drop-request (r .serial) (s .requests)) (change-request (r .serial) (mark-delivered a b) (s .requests)))
   arrived r a b k = cond-elim Shares (r .abandoned) _ _ (λ _. gone (r .serial) k) (λ _. changed (r .serial) (mark-delivered a b) (λ _. refl) k)
@@ -80,7 +77,7 @@ module _ (s : State) where
         restarts-tablet = λ e k. k;
         restarts-player = λ p h k.
             let stays : Request → Bool = λ r. not (by p r && (pending r && r .delivered)) in
-            as-many-shares (keep stays (s .requests)) (map (λ r. cond (by p r) (mark-abandoned r) r) (keep stays (s .requests))) (choice-count (by p) mark-abandoned (λ _. refl) (keep stays (s .requests))) (fewer stays k);
+            as-many-shares (keep stays (s .requests)) (map (λ r. cond (by p r) (mark-abandoned r) r) (keep stays (s .requests))) (choice-count (by p) mark-abandoned (λ _. refl) (keep stays (s .requests))) (kept-shares stays (s .requests) k);
         finds = λ e k. k;
         loads = λ e v w k. appended-shares (s .requests) (s .requests) _ (λ _. refl) k (w .place);
       }
@@ -99,40 +96,44 @@ pub data Asks : Step → ℕ → Type 0 where
   a-load : {e v : ℕ} → Asks (Load e v) loader
 
 module _ (s : State) where
-  -- 38 is given where no place is left for player p, and not else
-  abbrev When : ℕ → Result → Type 0
-  When p r = r .reply .code ≡ no-place-left → no-place p (s .requests) ≡ true
+  -- 38 is given only where no place is left for player p
+  abbrev OnlyWhen : ℕ → Result → Type 0
+  OnlyWhen p r = r .reply .code ≡ no-place-left → no-place p (s .requests) ≡ true
 
   -- another code
-  other : (p : ℕ) (r : Result) → r .reply .code ≢ no-place-left → When p r
+  other : (p : ℕ) (r : Result) → r .reply .code ≢ no-place-left → OnlyWhen p r
   other p r h e = absurd (h e)
 
-  placed : (p : ℕ) (r : Result) → r .reply .code ≢ no-place-left → When p (need-place s p r)
+  placed : (p : ℕ) (r : Result) → r .reply .code ≢ no-place-left → OnlyWhen p (need-place s p r)
   placed p r h = by-test (no-place p (s .requests)) refl
     where
-      by-test : (b : Bool) → no-place p (s .requests) ≡ b → When p (check s b no-place-left (need-serial s r))
+      by-test : (b : Bool) → no-place p (s .requests) ≡ b → OnlyWhen p (check s b no-place-left (need-serial s r))
       by-test true t = λ _. t
-      by-test false t = check-elim (When p) s (leb serials (s .last)) no-serial-left r (λ e. absurd (omega arith)) (λ _. other p r h)
+      by-test false t = check-elim (OnlyWhen p) s (leb serials (s .last)) no-serial-left r (λ e. absurd (omega arith)) (λ _. other p r h)
 
-  only-when : {x : Step} {p : ℕ} → Asks x p → When p (step s x)
+  -- no place is left
+  turned : (p : ℕ) (r : Result) → no-place p (s .requests) ≡ true → (need-place s p r .reply .code ≢ issued 0 .code) × (need-place s p r .reply .code ≢ no-serial-left)
+  turned p r t = rw t (omega arith, omega arith)
+
+  only-when : {x : Step} {p : ℕ} → Asks x p → OnlyWhen p (step s x)
   only-when (a-guard {p} {g}) =
-      check-elim (When p) s (leb players p || bad-range g) out-of-range _ (λ e. absurd (omega arith))
-      (λ _. check-elim (When p) s (not (all-entries (owns s p) (g .low) (g .high))) not-owner _ (λ e. absurd (omega arith))
-      (λ _. check-elim (When p) s (any (requesting p g) (s .requests)) already-requested _ (λ e. absurd (omega arith)) (λ _. placed p (request-guard s p g) (omega arith))))
+      check-elim (OnlyWhen p) s (leb players p || bad-range g) out-of-range _ (λ e. absurd (omega arith))
+      (λ _. check-elim (OnlyWhen p) s (not (all-entries (owns s p) (g .low) (g .high))) not-owner _ (λ e. absurd (omega arith))
+      (λ _. check-elim (OnlyWhen p) s (any (requesting p g) (s .requests)) already-requested _ (λ e. absurd (omega arith)) (λ _. placed p (request-guard s p g) (omega arith))))
   only-when (a-read {p} {e}) =
-      check-elim (When p) s (leb players p) out-of-range _ (λ e. absurd (omega arith))
-      (λ _. cond-elim (When p) (cache-hit s p e) (read-from-cache s p e) (need-place s p (read-from-store s p e)) (λ _. other p (read-from-cache s p e) (omega arith)) (λ _. placed p (read-from-store s p e) (omega arith)))
+      check-elim (OnlyWhen p) s (leb players p) out-of-range _ (λ e. absurd (omega arith))
+      (λ _. cond-elim (OnlyWhen p) (cache-hit s p e) (read-from-cache s p e) (need-place s p (read-from-store s p e)) (λ _. other p (read-from-cache s p e) (omega arith)) (λ _. placed p (read-from-store s p e) (omega arith)))
   only-when (a-write {p} {e} {v}) =
-      check-elim (When p) s (leb players p) out-of-range _ (λ e. absurd (omega arith))
-      (λ _. check-elim (When p) s (not (owns s p e)) not-owner _ (λ e. absurd (omega arith))
-      (λ _. check-elim (When p) s (not (live s p e)) no-live-guard _ (λ e. absurd (omega arith)) (λ _. placed p (write s p e v) (omega arith))))
+      check-elim (OnlyWhen p) s (leb players p) out-of-range _ (λ e. absurd (omega arith))
+      (λ _. check-elim (OnlyWhen p) s (not (owns s p e)) not-owner _ (λ e. absurd (omega arith))
+      (λ _. check-elim (OnlyWhen p) s (not (live s p e)) no-live-guard _ (λ e. absurd (omega arith)) (λ _. placed p (write s p e v) (omega arith))))
   only-when (a-load {e} {v}) = placed loader (load s e v) (omega arith)
 
   -- ‘A player with fewer than 6 rows is never turned away for want of one’
   pub never-turned-away : {x : Step} {p : ℕ} → Asks x p → p < loader → count-by p (s .requests) < own-places → step s x .reply .code ≢ no-place-left
   never-turned-away {x} {p} a lt h e = let t : _≡_ {A = Bool} true false = sym (only-when a e) ∙ own-place-left p (s .requests) lt h in absurd (true≢false t)
 
-  -- ‘38 when the player has 6 rows or more, or is the loader, and the 16 common rows are in use’
+  -- ‘38 when the player has 6 rows or more, or is the loader, and the 16 common rows are in use’: only then
   pub turned-away-when : {x : Step} {p : ℕ} → Asks x p → step s x .reply .code ≡ no-place-left → ((loader ≤ p) ⊎ (own-places ≤ count-by p (s .requests))) × (common-places ≤ common-used (s .requests))
   turned-away-when {x} {p} a e =
       let t = only-when a e in
@@ -141,6 +142,24 @@ module _ (s : State) where
       either : (b : Bool) → leb loader p ≡ b → (b || leb own-places (count-by p (s .requests))) ≡ true → (loader ≤ p) ⊎ (own-places ≤ count-by p (s .requests))
       either true u t = inl (leb-true loader p u)
       either false u t = inr (leb-true own-places (count-by p (s .requests)) t)
+
+  -- and then none goes in, and none is refused for want of a serial: 38 comes before 34
+  abbrev StaysOut : Result → Type 0
+  StaysOut r = (r .reply .code ≢ issued 0 .code) × (r .reply .code ≢ no-serial-left)
+
+  pub stays-out : {x : Step} {p : ℕ} → Asks x p → no-place p (s .requests) ≡ true → StaysOut (step s x)
+  stays-out (a-guard {p} {g}) t =
+      check-elim StaysOut s (leb players p || bad-range g) out-of-range _ (omega arith, omega arith)
+      (λ _. check-elim StaysOut s (not (all-entries (owns s p) (g .low) (g .high))) not-owner _ (omega arith, omega arith)
+      (λ _. check-elim StaysOut s (any (requesting p g) (s .requests)) already-requested _ (omega arith, omega arith) (λ _. turned p (request-guard s p g) t)))
+  stays-out (a-read {p} {e}) t =
+      check-elim StaysOut s (leb players p) out-of-range _ (omega arith, omega arith)
+      (λ _. cond-elim StaysOut (cache-hit s p e) (read-from-cache s p e) (need-place s p (read-from-store s p e)) (λ _. (omega arith, omega arith)) (λ _. turned p (read-from-store s p e) t))
+  stays-out (a-write {p} {e} {v}) t =
+      check-elim StaysOut s (leb players p) out-of-range _ (omega arith, omega arith)
+      (λ _. check-elim StaysOut s (not (owns s p e)) not-owner _ (omega arith, omega arith)
+      (λ _. check-elim StaysOut s (not (live s p e)) no-live-guard _ (omega arith, omega arith) (λ _. turned p (write s p e v) t)))
+  stays-out (a-load {e} {v}) t = turned loader (load s e v) t
 
 -- ---- of tables, by the calls' contract
 

@@ -1,10 +1,10 @@
 -- Requests counted by player in one number: its counts are those of the shares.
 -- Assumes nothing.
-use mathlib.Core.Path.{_≡_, refl, sym, ap, _∙_, subst}
+use mathlib.Core.Path.{_≡_, refl, sym, ap, _∙_}
 use mathlib.Core.Logic.{_≢_, ⊎-elim}
-use mathlib.Core.Bool.{Bool, true, false, cond, not, _&&_, _||_}
+use mathlib.Core.Bool.{Bool, true, false, not, _&&_, _||_}
 use mathlib.Core.List.{List, [], _∷_}
-use Prim.Native.Nat.{ℕ, zero, suc, _+_, _-_, _*_, _/_, _%_, _^_, _≤_, _<_}
+use Prim.Native.Nat.{ℕ, zero, suc, _+_, _-_, _*_, _/_, _^_, _≤_, _<_}
 use native.Mathlib.Omega.{arith}
 use native.Mathlib.Nat.{zero-add}
 use native.Mathlib.Numerals.{add-one}
@@ -14,8 +14,9 @@ use lib.Dec.{leb, ltb, eqb}
 use lib.ListN.{length}
 use Rattle.requests.specs.declared.Request.{Request}
 use Rattle.requests.specs.Model.{places, loader, by}
-use Rattle.requests.specs.Shares.{own-places, common-places, count-by, above-own, common, common-used, shares-hold, turned-away, no-place, unit, counted, count-in}
+use Rattle.requests.specs.Shares.{own-places, common-places, count-by, above-own, common, common-used, turned-away, no-place, unit, counted, count-in}
 use Rattle.requests.proofs.Basics.{decide, cond-elim}
+use Rattle.requests.proofs.ShareLaws.{counting}
 
 -- ---- numbers with digits below 128
 
@@ -59,10 +60,6 @@ number-more (suc n) c d (suc p) h e k =
 
 -- ---- the requests of a list
 
--- each count, as a function of the player
-abbrev counting : List Request → ℕ → ℕ
-counting rs p = count-by p rs
-
 counting-more : (r : Request) (rs : List Request) → counting (r ∷ rs) (r .player) ≡ suc (counting rs (r .player))
 counting-more r rs = let a : by (r .player) r ≡ true = eq-eqb (r .player) (r .player) refl in rw a
 
@@ -96,9 +93,9 @@ no-unit p h = rw (lt-leb p loader h)
 pub unit-of : (k : ℕ) {p : ℕ} → p ≡ k → unit k ≡ unit p
 unit-of k e = ap unit (sym e)
 
--- a number that is at least k, and not k
-pub above : (k : ℕ) {p : ℕ} → k ≤ p → (p ≡ k → ⊥) → suc k ≤ p
-above k h n = omega arith
+-- a number that is at least k, and not k, is more
+pub not-yet : (k : ℕ) {p : ℕ} → k ≤ p → (p ≡ k → ⊥) → suc k ≤ p
+not-yet k h n = omega arith
 
 -- the number is small enough for its word
 unit-most : (p : ℕ) → unit p ≤ 2 ^ 56
@@ -113,7 +110,8 @@ module _ (rs : List Request) (few : length rs ≤ places) where
   abbrev all : ℕ → ℕ
   all = count-in (counted rs)
 
-  all-counted : (p : ℕ) → p ≤ loader → all p ≡ count-by p rs
+  -- the counts that are read of the number are those of the requests
+  pub all-counted : (p : ℕ) → p ≤ loader → all p ≡ count-by p rs
   all-counted p h = rw (counted-number rs) (digit (suc loader) (counting rs) p (omega arith) (λ q. let a = count-most q rs in omega arith))
 
   all-above : (n : ℕ) → n ≤ loader → above-own all n ≡ above-own (counting rs) n

@@ -149,15 +149,14 @@ module _ (w : List ℕ) (n p k : ℕ) where
 
 -- ---- the region
 
--- all places that are used have been passed
 module _ (w : List ℕ) (n : ℕ) where
+  -- a place breaks the rules; or none does, and the counts of all requests tell of the shares
   pub places-broken : places-hold n 0 64 w ≡ false → false ≡ places-hold n 0 64 w && shares-hold (requestsOf w)
   places-broken h = rw h
 
   pub shares-told : places-hold n 0 64 w ≡ true → (c : ℕ) → c ≡ counted (requestsOf w) → (b : Bool) → b ≡ leb (common (count-in c)) common-places → b ≡ places-hold n 0 64 w && shares-hold (requestsOf w)
   shares-told h c ec b eb = rw (h, eb, ec, common-counted (requestsOf w) (requests-few w))
 
-module _ (w : List ℕ) (n : ℕ) where
   pub other-length : (length w ≡ 768 → ⊥) → false ≡ valid n w
   unfolding valid
   other-length h = rw (ne-eqb (length w) 768 h)

@@ -1,23 +1,21 @@
 -- A region that holds a list of requests: what each call tells of the list, and what it does to it.
 -- Assumes nothing.
 use mathlib.Core.Path.{_≡_, refl, sym, ap, _∙_}
-use mathlib.Core.Logic.{⊎-elim}
 use mathlib.Core.Bool.{Bool, true, false, cond, _&&_}
 use mathlib.Core.List.{List, [], _∷_, _++_, map}
 use Prim.Native.Nat.{ℕ, zero, suc, _+_, _-_, _*_, _≤_, _<_}
 use native.Mathlib.Nat.{add-zero, zero-add, sub-zero, not-suc-le-zero, le-of-suc-le-suc}
 use native.Mathlib.Omega.{arith}
-use lib.Dec.{leb, eqb}
+use lib.Dec.{eqb}
 use lib.ListN.{length, getD, take, drop, set, replicate, getD-replicate, length-replicate, length-map, replicate-append-replicate}
-use lib.Seq.{take-append-add, drop-append-add, drop-at, getD-append-add}
-use borrow.Author.Tests.{eq-eqb, ne-eqb, eqb-true, lt-ltb, leb-true, leb-false}
+use lib.Seq.{take-append-add, drop-append-add, drop-at}
+use borrow.Author.Tests.{eq-eqb, ne-eqb, eqb-true, lt-ltb}
 use Rattle.requests.specs.declared.Request.{Request}
 use Rattle.requests.specs.declared.Fit.{Fit}
 use Rattle.requests.specs.declared.Found.the-variants.{At, Nowhere}
 use Rattle.requests.specs.Model.{places, serial-is, by, fits, named, writing, using-entry, any, keep, find, drop-request, change-request, mark-overlapped, mark-abandoned, mark-delivered}
 use Rattle.requests.specs.Region.{wordsOf, placed, regionOf}
 use Rattle.requests.specs.Calls.{found-from, found, scan-of, scanned, over, with-request, with-abandoned, with-delivered, closed, without, overlapped-from, crossing, crossed, remains, give-up, remaining, restarted}
-use Rattle.requests.proofs.Basics.{decide}
 use Rattle.requests.proofs.Rising.{Each, In, here, there, fewer-kept}
 use Rattle.requests.proofs.RequestRules.{request-fits}
 use Rattle.requests.proofs.WordLaws.{over-skip, over-front, drop-zeros, set-from, sets-from}

@@ -19,14 +19,14 @@ use Rattle.requests.proofs.Rising.{In, here, there}
 abbrev pub Shares : List Request → Type 0
 Shares rs = common-used rs ≤ common-places
 
--- the requests of one player, and of all
+-- how many requests each has, by its number
 abbrev pub counting : List Request → ℕ → ℕ
 counting rs p = count-by p rs
 
 -- ---- counting the requests of a changed list
 
 -- nobody has more than before
-abbrev pub NoMore : List Request → List Request → Type 0
+abbrev NoMore : List Request → List Request → Type 0
 NoMore rs rs′ = (p : ℕ) → count-by p rs′ ≤ count-by p rs
 
 -- one more or not
@@ -38,7 +38,7 @@ counts-over : (b : Bool) (m n : ℕ) → m ≤ n → m ≤ cond b (suc n) n
 counts-over true m n h = omega arith
 counts-over false m n h = h
 
-pub keep-no-more : (f : Request → Bool) (rs : List Request) → NoMore rs (keep f rs)
+keep-no-more : (f : Request → Bool) (rs : List Request) → NoMore rs (keep f rs)
 keep-no-more f [] p = omega arith
 keep-no-more f (r ∷ rs) p =
     let h = keep-no-more f rs p in
@@ -54,7 +54,7 @@ map-count f h (r ∷ rs) p =
 pub choice-count : (t : Request → Bool) (f : Request → Request) → ((r : Request) → f r .player ≡ r .player) → (rs : List Request) (p : ℕ) → count-by p (map (λ r. cond (t r) (f r) r) rs) ≡ count-by p rs
 choice-count t f h = map-count (λ r. cond (t r) (f r) r) (λ r. cond-elim (λ (y : Request). y .player ≡ r .player) (t r) (f r) r (λ _. h r) (λ _. refl))
 
-pub changed-count : (n : ℕ) (f : Request → Request) → ((r : Request) → f r .player ≡ r .player) → (rs : List Request) (p : ℕ) → count-by p (change-request n f rs) ≡ count-by p rs
+changed-count : (n : ℕ) (f : Request → Request) → ((r : Request) → f r .player ≡ r .player) → (rs : List Request) (p : ℕ) → count-by p (change-request n f rs) ≡ count-by p rs
 changed-count n = choice-count (serial-is n)
 
 -- a request more: of its player one more, of all others as many
@@ -75,13 +75,13 @@ append-own (r ∷ rs) n = ap (λ k. cond (by (n .player) r) (suc k) k) (append-o
 
 -- ---- the common places in use
 
--- where each count is as large at most
+-- of two counts for each player, where the second are not larger
 module _ (c d : ℕ → ℕ) where
-  pub above-no-more : ((p : ℕ) → d p - own-places ≤ c p - own-places) → (n : ℕ) → above-own d n ≤ above-own c n
+  above-no-more : ((p : ℕ) → d p - own-places ≤ c p - own-places) → (n : ℕ) → above-own d n ≤ above-own c n
   above-no-more h zero = omega arith
   above-no-more h (suc n) = let a = h n in let b = above-no-more h n in omega arith
 
-  -- below p alone
+  -- where they are not larger but for player p: of those below p
   above-below : (p : ℕ) → ((q : ℕ) → q ≢ p → d q ≤ c q) → (n : ℕ) → n ≤ p → above-own d n ≤ above-own c n
   above-below p h zero le = omega arith
   above-below p h (suc n) le = let a = h n (omega arith) in let b = above-below p h n (omega arith) in omega arith
@@ -110,7 +110,7 @@ module _ (c d : ℕ → ℕ) where
         let b = above-no-more (λ q. ⊎-elim (λ t. let e = eqb-true q p t in let x = most q e in let y : c q < own-places = subst (λ z. c z < own-places) (sym e) own in omega arith) (λ t. let x = h q (eqb-false q p t) in omega arith) (decide (eqb q p))) loader in
         omega arith
 
-pub common-no-more : (rs rs′ : List Request) → NoMore rs rs′ → common-used rs′ ≤ common-used rs
+common-no-more : (rs rs′ : List Request) → NoMore rs rs′ → common-used rs′ ≤ common-used rs
 common-no-more rs rs′ h =
     let a = h loader in
     let b = above-no-more (counting rs) (counting rs′) (λ p. let c = h p in omega arith) loader in
@@ -118,6 +118,12 @@ common-no-more rs rs′ h =
 
 pub as-many-shares : (rs rs′ : List Request) → ((p : ℕ) → count-by p rs′ ≡ count-by p rs) → Shares rs → Shares rs′
 as-many-shares rs rs′ h k = let a = common-no-more rs rs′ (λ p. let c = h p in omega arith) in omega arith
+
+pub kept-shares : (f : Request → Bool) (rs : List Request) → Shares rs → Shares (keep f rs)
+kept-shares f rs k = let a = common-no-more rs (keep f rs) (keep-no-more f rs) in omega arith
+
+pub changed-shares : (n : ℕ) (f : Request → Request) → ((r : Request) → f r .player ≡ r .player) → (rs : List Request) → Shares rs → Shares (change-request n f rs)
+changed-shares n f h rs = as-many-shares rs (change-request n f rs) (changed-count n f h rs)
 
 -- ---- a place is left
 
@@ -143,9 +149,6 @@ own-place-left p rs lt h = rw (lt-leb loader p lt, lt-leb own-places (count-by p
 pub appended-shares : (rs ms : List Request) (n : Request) → ((p : ℕ) → count-by p ms ≡ count-by p rs) → Shares rs → no-place (n .player) rs ≡ false → Shares (ms ++ (n ∷ []))
 appended-shares rs ms n same s t = go (left-shown (counting rs) (n .player) t)
   where
-    ns : List Request
-    ns = ms ++ (n ∷ [])
-
     others : (q : ℕ) → q ≢ n .player → count-by q (ms ++ (n ∷ [])) ≤ count-by q rs
     others q h = let a = append-other ms n q (λ z. h (sym z)) in let b = same q in omega arith
 

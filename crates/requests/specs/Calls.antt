@@ -50,6 +50,7 @@ pub record Finds (f : Fit) (n : ℕ) (w : List ℕ) (r : Found) : Type 0 where
 abbrev pub scan-of : (Request → Bool) → List Request → Scan
 scan-of f rs = record { used = length rs; hit = any f rs; counts = counted rs }
 
+-- the same of a region
 abbrev pub scanned : (Request → Bool) → List ℕ → Scan
 scanned f w = scan-of f (requestsOf w)
 

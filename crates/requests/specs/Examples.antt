@@ -3,7 +3,7 @@
 use mathlib.Core.Path.{_≡_, refl}
 use mathlib.Core.Bool.{Bool, true, false, cond}
 use mathlib.Core.List.{List, [], _∷_, _++_, map}
-use Prim.Native.Nat.{ℕ, zero, suc, _^_}
+use Prim.Native.Nat.{ℕ, zero, suc, _+_, _*_, _^_}
 use lib.Dec.{eqb}
 use lib.ListN.{replicate}
 use Rattle.store.specs.Calls.{reply}
@@ -11,8 +11,8 @@ use Rattle.store.specs.Table.{at-most}
 use Rattle.requests.specs.declared.Request.{Request}
 use Rattle.requests.specs.declared.LentRequest.{LentRequest}
 use Rattle.requests.specs.declared.Fit.the-variants.{Undelivered, Answerable, Pending, Abandoned}
-use Rattle.requests.specs.Model.{loader, writing, using-entry, new-request, mark-abandoned, mark-delivered}
-use Rattle.requests.specs.Shares.{turned-away, counted as counted-requests, count-in}
+use Rattle.requests.specs.Model.{places, loader, writing, using-entry, new-request, mark-abandoned, mark-delivered}
+use Rattle.requests.specs.Shares.{own-places, common-places, turned-away, counted as counted-requests, count-in}
 use Rattle.requests.specs.Region.{requestOf, requestsFrom, requestsOf, placed, regionOf, fields-hold, outcome-holds, request-holds, words-fit, places-hold, valid}
 use Rattle.requests.specs.Answers.{gives, refused}
 use Rattle.requests.specs.Calls.{found-numbers, scanned, overlapped-from, crossing, crossed}
@@ -82,6 +82,10 @@ abbrev some : ℕ → ℕ → ℕ → List Request
 some p zero k = []
 some p (suc n) k = new-request k p (cond (eqb p loader) 5 4) 45 0 0 0 false ∷ some p n (suc k)
 
+-- the players' own places and the common ones are all
+pub places-case : 8 * own-places + common-places ≡ places
+places-case = refl
+
 -- document 02 §5, ‘Tables breaking these shares are 22’: 22 requests of one player and 23, all pending, all given up, all delivered; 16 loads and 17; 8
 -- common places of one player and 8 of another, and 8 and 9; 8, 7 and a load, and 8, 7 and two; all 64, and one that is another's instead
 pub shares-case :
@@ -107,14 +111,14 @@ shares-case = refl
 
 -- the counts of a region, by player: the loader's are the ninth, and a number above it has none
 abbrev some-counts : ℕ
-some-counts = scanned (writing 0 9) (regionOf (some 0 22 1 ++ some 1 5 23 ++ some 2 6 28 ++ some 9 1 34)) .counts
+some-counts = scanned (writing 0 9) (regionOf (some 0 20 1 ++ some 1 5 21 ++ some 2 6 26 ++ some 9 1 32 ++ some loader 2 33)) .counts
 
-pub counts-case : map (count-in some-counts) (0 ∷ 1 ∷ 2 ∷ 3 ∷ 7 ∷ loader ∷ []) ≡ 22 ∷ 5 ∷ 6 ∷ 0 ∷ 0 ∷ 0 ∷ []
+pub counts-case : map (count-in some-counts) (0 ∷ 1 ∷ 2 ∷ 3 ∷ 7 ∷ loader ∷ []) ≡ 20 ∷ 5 ∷ 6 ∷ 0 ∷ 0 ∷ 2 ∷ []
 unfolding requestOf requestsFrom requestsOf placed counted-requests
 counts-case = refl
 
--- no place is left for a 23rd request of player 0 and a seventh of player 2, and one is for a sixth of player 1 and a first of player 3; none for the
--- loader, nor for a number above it, whoever has so many
+-- 14 and 2 common places are in use: no place is left for a 21st request of player 0 and a seventh of player 2, and one is for a sixth of player 1 and a
+-- first of player 3; none for the loader, nor for a number above it
 pub full-case : map (turned-away (count-in some-counts)) (0 ∷ 1 ∷ 2 ∷ 3 ∷ loader ∷ 9 ∷ []) ≡ true ∷ false ∷ true ∷ false ∷ true ∷ true ∷ []
 unfolding requestOf requestsFrom requestsOf placed counted-requests
 full-case = refl

@@ -66,8 +66,8 @@ pub enum Found {
     Nowhere,
 }
 
-// What a pass over the requests tells: how many there are, whether one is of those that are looked for, and how many each player has
-// (`shares::is_full`).
+// What a pass over the requests tells: how many there are, whether one is of those that are looked for, and how many each player, and the loader,
+// has: seven bits of `counts` for each, the lowest for player 0 (`shares::has_no_place`).
 pub struct Scan {
     pub used: usize,
     pub hit: bool,

@@ -53,7 +53,7 @@ pub fn find(region: &[u32], serial: u32, fit: Fit) -> Found
     Found::Nowhere
 }
 
-// ---- passes over all requests: how many there are, whether one is looked for, and how many each player has
+// ---- passes over all requests: how many there are, whether one is among those looked for, and how many each player has
 
 // Step 3 looks for a pending guard request of the player that shares an entry with the range.
 pub fn scan_requesting(region: &[u32], player: u8, range: Range) -> Scan
@@ -81,7 +81,7 @@ pub fn scan_requesting(region: &[u32], player: u8, range: Range) -> Scan
     }
 }
 
-// Step 4 looks for a pending write of the player on the entry.
+// Step 4 looks for a pending write of the player on the entry. (Step 15 makes this pass for the counts alone.)
 pub fn scan_writing(region: &[u32], player: u8, entry: u8) -> Scan
     ensures { λ r. ⌜ r ≡ scanned (writing player entry) (now (region .entry)) ⌝ }
 {

@@ -8,8 +8,7 @@ ghost use lib.Dec.{leb};
 ghost use Rattle.requests.specs.Model.{loader};
 ghost use Rattle.requests.specs.Shares.{own-places, common-places, common, turned-away, unit, count-in};
 
-// What one request of the player adds to the counts, 2 to the power of 7 times its number, which compiles to a table of nine words; a number above
-// the loader's has no count.
+// What one request of the player adds to the counts: 2 to the power of 7 times its number; a number above the loader's has no count.
 pub(crate) fn unit(player: u8) -> u64
     ensures { λ r. ⌜ r ≡ unit player ⌝ }
 {
@@ -92,7 +91,7 @@ fn has_own_place(counts: u64, player: u8) -> bool
 }
 
 // Whether no place is left for one more request of the player, where these are the counts of the requests in flight.
-pub fn is_full(counts: u64, player: u8) -> bool
+pub fn has_no_place(counts: u64, player: u8) -> bool
     ensures { λ r. ⌜ r ≡ turned-away (count-in counts) player ⌝ }
 {
     if has_own_place(counts, player) {

@@ -1,4 +1,4 @@
-// Tests of one request: by its place, of which most end at the first word that they read, or once it has been read.
+// Tests of one request: some read words of its place, and end at the first that decides; others are given the request.
 use crate::Fit;
 use crate::Request;
 use crate::fields;
@@ -96,7 +96,7 @@ pub(crate) fn remains(r: Request, player: u8) -> bool
     !r.delivered
 }
 
-// One of two tests.
+// Whether one of two tests holds.
 pub(crate) fn either(a: bool, b: bool) -> bool
     ensures { λ r. ⌜ r ≡ a || b ⌝ }
 {

@@ -53,7 +53,7 @@ added k r t =
     let u = set t 0 (r .serial) in
     putMid requests-at region-words u (with-request k r (take region-words (drop requests-at u)))
 
--- the player's pending reads and writes on the entry are marked overlapped, if there are any; whether a write is among them
+-- where `b` tells that there are some, the player's pending reads and writes on the entry are marked overlapped; whether a write is among them
 unfoldable pub crossed-table : Bool → ℕ → ℕ → List ℕ → Crossing
 crossed-table b p e t =
     let x = crossed p e (take region-words (drop requests-at t)) in

@@ -109,7 +109,7 @@ pub(crate) fn request_guard(players: &mut [u32], player: u8, range: Range) -> Re
     if scan.hit {
         return refuse(codes::ALREADY_REQUESTED);
     }
-    if shares::is_full(scan.counts, player) {
+    if shares::has_no_place(scan.counts, player) {
         return refuse(codes::NO_PLACE_LEFT);
     }
     let last = players[layout::LAST];
@@ -143,7 +143,7 @@ pub(crate) fn read(players: &mut [u32], player: u8, entry: u8) -> Reply
         player,
         entry,
     );
-    if shares::is_full(scan.counts, player) {
+    if shares::has_no_place(scan.counts, player) {
         return refuse(codes::NO_PLACE_LEFT);
     }
     let last = players[layout::LAST];
@@ -159,7 +159,7 @@ pub(crate) fn read(players: &mut [u32], player: u8, entry: u8) -> Reply
     issued(last + 1)
 }
 
-// Marks the player's pending reads and writes on the entry as overlapped, if there are any; whether a write is among them.
+// Marks the player's pending reads and writes on the entry as overlapped, where `any` tells that there are some; whether a write is among them.
 fn cross(players: &mut [u32], any: bool, player: u8, entry: u8) -> bool
     requires { ⌜ length (now players) ≡ players-words ⌝ }
     ensures { λ r. ⌜ crossing r (now (players .exit)) ≡ crossed-table any player entry (now (players .entry)) ⌝ }
@@ -195,7 +195,7 @@ pub(crate) fn write(players: &mut [u32], player: u8, entry: u8, value: u32) -> R
         player,
         entry,
     );
-    if shares::is_full(scan.counts, player) {
+    if shares::has_no_place(scan.counts, player) {
         return refuse(codes::NO_PLACE_LEFT);
     }
     let last = players[layout::LAST];

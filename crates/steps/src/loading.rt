@@ -27,7 +27,7 @@ pub(crate) fn load(players: &mut [u32], entry: u8, value: u32) -> Reply
         player,
         entry,
     );
-    if shares::is_full(scan.counts, player) {
+    if shares::has_no_place(scan.counts, player) {
         return refuse(codes::NO_PLACE_LEFT);
     }
     let last = players[layout::LAST];

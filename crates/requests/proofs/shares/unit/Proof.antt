@@ -1,7 +1,7 @@
 -- `requests::shares::unit` meets its contract: a case for each player, one for the loader, and one for the others.
 -- Assumes nothing.
 use Prim.Native.Nat.{zero-le}
-use Rattle.requests.proofs.CountLaws.{unit-of, above, no-unit}
+use Rattle.requests.proofs.CountLaws.{unit-of, not-yet, no-unit}
 use Rattle.requests.proofs.shares.unit.Statement.{statement}
 use Rattle.requests.proofs.shares.unit.Tie as tie
 
@@ -33,7 +33,7 @@ returns-9 : tie.Need-returns-9
 returns-9 c = unit-of 8 (c .if9 .taken)
 
 returns-10 : tie.Need-returns-10
-returns-10 c = no-unit _ (above 8 (above 7 (above 6 (above 5 (above 4 (above 3 (above 2 (above 1 (above 0 zero-le (c .before .before .before .before .before .before .before .before .if1 .left)) (c .before .before .before .before .before .before .before .if2 .left)) (c .before .before .before .before .before .before .if3 .left)) (c .before .before .before .before .before .if4 .left)) (c .before .before .before .before .if5 .left)) (c .before .before .before .if6 .left)) (c .before .before .if7 .left)) (c .before .if8 .left)) (c .if9 .left))
+returns-10 c = no-unit _ (not-yet 8 (not-yet 7 (not-yet 6 (not-yet 5 (not-yet 4 (not-yet 3 (not-yet 2 (not-yet 1 (not-yet 0 zero-le (c .before .before .before .before .before .before .before .before .if1 .left)) (c .before .before .before .before .before .before .before .if2 .left)) (c .before .before .before .before .before .before .if3 .left)) (c .before .before .before .before .before .if4 .left)) (c .before .before .before .before .if5 .left)) (c .before .before .before .if6 .left)) (c .before .before .if7 .left)) (c .before .if8 .left)) (c .if9 .left))
 
 pub unit-spec : {M : Type 1} → statement M
 unit-spec =

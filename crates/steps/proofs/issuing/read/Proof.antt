@@ -62,8 +62,8 @@ part-scan-writing-end c = search needs
 scan-writing-requires : tie.Need-scan-writing-requires
 scan-writing-requires c κs = search needs
 
-is-full-requires : tie.Need-is-full-requires
-is-full-requires c κs = search needs
+has-no-place-requires : tie.Need-has-no-place-requires
+has-no-place-requires c κs = search needs
 
 refuse-requires-2 : tie.Need-refuse-requires-2
 refuse-requires-2 c κs = search needs
@@ -79,7 +79,7 @@ returns-3 c =
     let e1 = e2 .before .before .before in
     let x = e1 .before .before in
     let a = x .args in
-    read-full (a .players .now) (x .pre) (a .player) (a .entry) (omega (arith, e1 .if1 .left)) (omega (arith, x .fits)) (sym (e2 .if2 .left) ∙ e2 .before .is-hit .ensures) (s .scan-writing .ensures) (i .is-full .ensures) (c .before .if3 .taken) _ (c .refuse2 .ensures)
+    read-full (a .players .now) (x .pre) (a .player) (a .entry) (omega (arith, e1 .if1 .left)) (omega (arith, x .fits)) (sym (e2 .if2 .left) ∙ e2 .before .is-hit .ensures) (s .scan-writing .ensures) (i .has-no-place .ensures) (c .before .if3 .taken) _ (c .refuse2 .ensures)
 
 slice-read-last : tie.Need-slice-read-last
 slice-read-last c = search needs
@@ -99,7 +99,7 @@ returns-4 c =
     let e1 = e2 .before .before .before in
     let x = e1 .before .before in
     let a = x .args in
-    read-spent (a .players .now) (x .pre) (a .player) (a .entry) (omega (arith, e1 .if1 .left)) (omega (arith, x .fits)) (sym (e2 .if2 .left) ∙ e2 .before .is-hit .ensures) (s .scan-writing .ensures) (i .is-full .ensures) (e3 .if3 .left) (omega (arith, c .before .if4 .taken)) _ (c .refuse3 .ensures)
+    read-spent (a .players .now) (x .pre) (a .player) (a .entry) (omega (arith, e1 .if1 .left)) (omega (arith, x .fits)) (sym (e2 .if2 .left) ∙ e2 .before .is-hit .ensures) (s .scan-writing .ensures) (i .has-no-place .ensures) (e3 .if3 .left) (omega (arith, c .before .if4 .taken)) _ (c .refuse3 .ensures)
 
 live-guard-requires : tie.Need-live-guard-requires
 live-guard-requires c κs = search needs
@@ -133,7 +133,7 @@ returns-5 c =
     let e1 = e2 .before .before .before in
     let x = e1 .before .before in
     let a = x .args in
-    read-done (a .players .now) (x .pre) (a .player) (a .entry) (omega (arith, e1 .if1 .left)) (omega (arith, x .fits)) (sym (e2 .if2 .left) ∙ e2 .before .is-hit .ensures) (s .scan-writing .ensures) (i .is-full .ensures) (e3 .if3 .left) (omega (arith, e4 .if4 .left)) _ (v .live-guard .ensures)
+    read-done (a .players .now) (x .pre) (a .player) (a .entry) (omega (arith, e1 .if1 .left)) (omega (arith, x .fits)) (sym (e2 .if2 .left) ∙ e2 .before .is-hit .ensures) (s .scan-writing .ensures) (i .has-no-place .ensures) (e3 .if3 .left) (omega (arith, e4 .if4 .left)) _ (v .live-guard .ensures)
     _ (c .before .before .before .before .for-entry .ensures) _ (c .before .before .before .add .ensures) _ (c .issued .ensures)
 
 pub read-spec : {M : Type 1} → statement M
@@ -157,7 +157,7 @@ read-spec =
     part-scan-writing-start
     part-scan-writing-end
     scan-writing-requires
-    is-full-requires
+    has-no-place-requires
     refuse-requires-2
     same-length-2
     returns-3

@@ -111,8 +111,8 @@ returns-5 c =
     let s = c .before .before in
     request-again (asks (s .before .before .before)) (s .scan-requesting .ensures) (c .before .if5 .taken) _ (c .refuse5 .ensures)
 
-is-full-requires : tie.Need-is-full-requires
-is-full-requires c κs = tt
+has-no-place-requires : tie.Need-has-no-place-requires
+has-no-place-requires c κs = tt
 
 refuse-requires-6 : tie.Need-refuse-requires-6
 refuse-requires-6 c κs = tt
@@ -125,7 +125,7 @@ returns-6 c =
     let i = c .before .before in
     let e5 = i .before in
     let s = e5 .before in
-    request-full (asks (s .before .before .before)) (s .scan-requesting .ensures) (e5 .if5 .left) (i .is-full .ensures) (c .before .if6 .taken) _ (c .refuse6 .ensures)
+    request-full (asks (s .before .before .before)) (s .scan-requesting .ensures) (e5 .if5 .left) (i .has-no-place .ensures) (c .before .if6 .taken) _ (c .refuse6 .ensures)
 
 slice-read-last : tie.Need-slice-read-last
 slice-read-last c = has-last (start (c .before .before .before .before .before .before .before) .pre)
@@ -142,7 +142,7 @@ returns-7 c =
     let i = e6 .before in
     let e5 = i .before in
     let s = e5 .before in
-    request-spent (asks (s .before .before .before)) (s .scan-requesting .ensures) (e5 .if5 .left) (i .is-full .ensures) (e6 .if6 .left) (c .before .if7 .taken) _ (c .refuse7 .ensures)
+    request-spent (asks (s .before .before .before)) (s .scan-requesting .ensures) (e5 .if5 .left) (i .has-no-place .ensures) (e6 .if6 .left) (c .before .if7 .taken) _ (c .refuse7 .ensures)
 
 mul-i : tie.Need-mul-i
 mul-i c = cells (c .before .before .before .before .before .before .before .before) .row
@@ -184,7 +184,7 @@ returns-8 c =
     let i = e6 .before in
     let e5 = i .before in
     let s = e5 .before in
-    request-done (asks (s .before .before .before)) (s .scan-requesting .ensures) (e5 .if5 .left) (i .is-full .ensures) (e6 .if6 .left) (e7 .if7 .left)
+    request-done (asks (s .before .before .before)) (s .scan-requesting .ensures) (e5 .if5 .left) (i .has-no-place .ensures) (e6 .if6 .left) (e7 .if7 .left)
     _ (c .before .before .before .before .before .before .before .before .clear .ensures) _ (c .before .before .before .before .for-guard .ensures) _ (c .before .before .before .add .ensures) _ (c .issued .ensures)
 
 pub request-guard-spec : {M : Type 1} → statement M
@@ -212,7 +212,7 @@ request-guard-spec =
     refuse-requires-5
     same-length-2
     returns-5
-    is-full-requires
+    has-no-place-requires
     refuse-requires-6
     same-length-3
     returns-6

@@ -10,7 +10,7 @@ use Rattle.steps.proofs.issuing.write.Statement.{statement}
 use Rattle.steps.proofs.issuing.write.Tie as tie
 
 -- what is known where the requests have been looked at
-abbrev start : tie.After-is-full → tie.Start
+abbrev start : tie.After-has-no-place → tie.Start
 start c = c .before .before .before .before .before .before .before .before .before .before .before
 
 -- the cell that is cleared, and the table after it, which is as long
@@ -86,8 +86,8 @@ part-scan-using-end c = has-requests (c .before .before .before .before .before 
 scan-using-requires : tie.Need-scan-using-requires
 scan-using-requires c κs = tt
 
-is-full-requires : tie.Need-is-full-requires
-is-full-requires c κs = tt
+has-no-place-requires : tie.Need-has-no-place-requires
+has-no-place-requires c κs = tt
 
 refuse-requires-4 : tie.Need-refuse-requires-4
 refuse-requires-4 c κs = tt
@@ -105,7 +105,7 @@ returns-4 c =
     let e1 = e2 .before .before in
     let x = e1 .before .before in
     let a = x .args in
-    write-full (a .players .now) (x .pre) (a .player) (a .entry) (a .value) (is-player _ (e1 .if1 .left)) (x .fits .entry .fits) (e2 .if2 .left) _ (g .live-guard .ensures) (e3 .if3 .left) (s .scan-using .ensures) (i .is-full .ensures) (c .before .if4 .taken) _ (c .refuse4 .ensures)
+    write-full (a .players .now) (x .pre) (a .player) (a .entry) (a .value) (is-player _ (e1 .if1 .left)) (x .fits .entry .fits) (e2 .if2 .left) _ (g .live-guard .ensures) (e3 .if3 .left) (s .scan-using .ensures) (i .has-no-place .ensures) (c .before .if4 .taken) _ (c .refuse4 .ensures)
 
 slice-read-last : tie.Need-slice-read-last
 slice-read-last c = has-last (start (c .before .before) .pre)
@@ -127,7 +127,7 @@ returns-5 c =
     let e1 = e2 .before .before in
     let x = e1 .before .before in
     let a = x .args in
-    write-spent (a .players .now) (x .pre) (a .player) (a .entry) (a .value) (is-player _ (e1 .if1 .left)) (x .fits .entry .fits) (e2 .if2 .left) _ (g .live-guard .ensures) (e3 .if3 .left) (s .scan-using .ensures) (i .is-full .ensures) (e4 .if4 .left) (c .before .if5 .taken) _ (c .refuse5 .ensures)
+    write-spent (a .players .now) (x .pre) (a .player) (a .entry) (a .value) (is-player _ (e1 .if1 .left)) (x .fits .entry .fits) (e2 .if2 .left) _ (g .live-guard .ensures) (e3 .if3 .left) (s .scan-using .ensures) (i .has-no-place .ensures) (e4 .if4 .left) (c .before .if5 .taken) _ (c .refuse5 .ensures)
 
 mul-cache : tie.Need-mul-cache
 mul-cache c = cell c .row
@@ -173,7 +173,7 @@ returns-6 c =
     let e1 = e2 .before .before in
     let x = e1 .before .before in
     let a = x .args in
-    write-done (a .players .now) (x .pre) (a .player) (a .entry) (a .value) (is-player _ (e1 .if1 .left)) (x .fits .entry .fits) (e2 .if2 .left) _ (g .live-guard .ensures) (e3 .if3 .left) (s .scan-using .ensures) (i .is-full .ensures) (e4 .if4 .left) (e5 .if5 .left)
+    write-done (a .players .now) (x .pre) (a .player) (a .entry) (a .value) (is-player _ (e1 .if1 .left)) (x .fits .entry .fits) (e2 .if2 .left) _ (g .live-guard .ensures) (e3 .if3 .left) (s .scan-using .ensures) (i .has-no-place .ensures) (e4 .if4 .left) (e5 .if5 .left)
     _ (h .cache .ensures) _ _ (k .cross .ensures) _ (c .before .before .before .before .for-entry .ensures) _ (c .before .before .before .add .ensures) _ (c .issued .ensures)
 
 pub write-spec : {M : Type 1} → statement M
@@ -195,7 +195,7 @@ write-spec =
     part-scan-using-start
     part-scan-using-end
     scan-using-requires
-    is-full-requires
+    has-no-place-requires
     refuse-requires-4
     same-length-2
     returns-4

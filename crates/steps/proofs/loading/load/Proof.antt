@@ -18,8 +18,8 @@ part-scan-writing-end c = search needs
 scan-writing-requires : tie.Need-scan-writing-requires
 scan-writing-requires c κs = search needs
 
-is-full-requires : tie.Need-is-full-requires
-is-full-requires c κs = search needs
+has-no-place-requires : tie.Need-has-no-place-requires
+has-no-place-requires c κs = search needs
 
 refuse-requires : tie.Need-refuse-requires
 refuse-requires c κs = search needs
@@ -33,7 +33,7 @@ returns c =
     let s = i .before in
     let x = s .before .before .before .before in
     let a = x .args in
-    load-full (a .players .now) (x .pre) (a .entry) (a .value) (s .scan-writing .ensures) (i .is-full .ensures) (c .before .if1 .taken) _ (c .refuse .ensures)
+    load-full (a .players .now) (x .pre) (a .entry) (a .value) (s .scan-writing .ensures) (i .has-no-place .ensures) (c .before .if1 .taken) _ (c .refuse .ensures)
 
 slice-read-last : tie.Need-slice-read-last
 slice-read-last c = search needs
@@ -51,7 +51,7 @@ returns-2 c =
     let s = i .before in
     let x = s .before .before .before .before in
     let a = x .args in
-    load-spent (a .players .now) (x .pre) (a .entry) (a .value) (s .scan-writing .ensures) (i .is-full .ensures) (e1 .if1 .left) (omega (arith, c .before .if2 .taken)) _ (c .refuse2 .ensures)
+    load-spent (a .players .now) (x .pre) (a .entry) (a .value) (s .scan-writing .ensures) (i .has-no-place .ensures) (e1 .if1 .left) (omega (arith, c .before .if2 .taken)) _ (c .refuse2 .ensures)
 
 add-for-entry : tie.Need-add-for-entry
 add-for-entry c = next-fits _ (c .before .if2 .left)
@@ -79,7 +79,7 @@ returns-3 c =
     let s = i .before in
     let x = s .before .before .before .before in
     let a = x .args in
-    load-done (a .players .now) (x .pre) (a .entry) (a .value) (s .scan-writing .ensures) (i .is-full .ensures) (e1 .if1 .left) (omega (arith, e2 .if2 .left))
+    load-done (a .players .now) (x .pre) (a .entry) (a .value) (s .scan-writing .ensures) (i .has-no-place .ensures) (e1 .if1 .left) (omega (arith, e2 .if2 .left))
     _ (c .before .before .before .before .for-entry .ensures) _ (c .before .before .before .add .ensures) _ (c .issued .ensures)
 
 pub load-spec : {M : Type 1} → statement M
@@ -90,7 +90,7 @@ load-spec =
     part-scan-writing-start
     part-scan-writing-end
     scan-writing-requires
-    is-full-requires
+    has-no-place-requires
     refuse-requires
     same-length
     returns

@@ -1,11 +1,11 @@
--- `requests::shares::is_full` meets its contract.
+-- `requests::shares::has_no_place` meets its contract.
 -- Assumes nothing.
 use mathlib.Core.Path.{sym, ap, _∙_}
 use lib.Dec.{leb}
 use Rattle.requests.specs.Shares.{common-places}
 use Rattle.requests.proofs.CountLaws.{own-left, common-needed}
-use Rattle.requests.proofs.shares.is_full.Statement.{statement}
-use Rattle.requests.proofs.shares.is_full.Tie as tie
+use Rattle.requests.proofs.shares.has_no_place.Statement.{statement}
+use Rattle.requests.proofs.shares.has_no_place.Tie as tie
 
 has-own-place-requires : tie.Need-has-own-place-requires
 has-own-place-requires c κs = tt
@@ -26,5 +26,5 @@ returns-2 c =
     let a = k .before .args in
     ap (leb common-places) (c .common .ensures) ∙ common-needed (a .counts) (a .player) (sym (e .if1 .left) ∙ k .has-own-place .ensures)
 
-pub is-full-spec : {M : Type 1} → statement M
-is-full-spec = tie.close (tie.spec has-own-place-requires returns common-requires returns-2)
+pub has-no-place-spec : {M : Type 1} → statement M
+has-no-place-spec = tie.close (tie.spec has-own-place-requires returns common-requires returns-2)
