@@ -12,5 +12,6 @@ pub mod CallLaws
 pub mod IntervalLaws
 pub mod LoadLaws
 pub mod ShareLaws
+pub mod CodeLaws
 pub mod Refusals
 pub mod PlayedLaws
