@@ -646,7 +646,9 @@ fn lengths(group: &mut Group<impl Library>) {
 }
 
 /// Steps by fields: 26 and 27, also on tables that would be refused themselves. First each kind with each
-/// field alone, be it one that the kind lacks or has.
+/// field alone, be it one that the kind lacks or has: drawn fields seldom give one kind one field that it
+/// lacks, so that a library which passes over it there (`Point::StrangeFieldsTaken`) would be let by on a
+/// small plan.
 fn any_fields(group: &mut Group<impl Library>) {
     for kind in 1..=group.kinds {
         let none = Fields {

@@ -246,7 +246,7 @@ fn used(players: &[u32]) -> usize {
     requests(players).count()
 }
 
-/// The players' table with these requests in place of its own, of which the first 64 find a place.
+/// The players' table with these requests, at most 64, in place of its own.
 fn with_requests(players: &[u32], requests: &[&[u32]]) -> Vec<u32> {
     let mut players = players.to_vec();
     let places = &mut players[tables::REQUESTS..];
@@ -257,13 +257,18 @@ fn with_requests(players: &[u32], requests: &[&[u32]]) -> Vec<u32> {
     players
 }
 
-/// A step where some requests take no place: they are set aside for it.
+/// A step where some requests take no place, if one of the 64 is left: they are set aside for it, and get the
+/// marks that it would have given them. The tables may break the shares then, and the next call refuses such
+/// (22).
 fn let_in(
     store: &mut [u32],
     players: &mut [u32],
     step: Fields,
     is_set_aside: impl Fn(&[u32]) -> bool,
 ) -> Reply {
+    if used(players) == MAX_REQUESTS {
+        return Reply::refused(38);
+    }
     let before = players.to_vec();
     let (aside, kept): (Vec<&[u32]>, Vec<&[u32]>) =
         requests(&before).partition(|request| is_set_aside(request));
@@ -272,7 +277,27 @@ fn let_in(
     let mut all: Vec<&[u32]> = requests(&left).chain(aside).collect();
     all.sort_by_key(|request| request[0]);
     players.copy_from_slice(&with_requests(&left, &all));
+    if reply.code == 1 && step.kind != 3 {
+        mark_overlapped(players, step);
+    }
     reply
+}
+
+/// The marks that belong to the read or write sent last: a pending write of its player on the entry overlaps
+/// it, and a write overlaps the pending reads and writes.
+fn mark_overlapped(players: &mut [u32], step: Fields) {
+    let last = 12 * (used(players) - 1);
+    let (earlier, sent) = players[tables::REQUESTS..].split_at_mut(last);
+    for request in earlier.chunks_mut(12) {
+        let [_, player, kind, low, .., abandoned, _, _] = *request else {
+            continue;
+        };
+        let is_pending = kind != 3 && abandoned == 0;
+        if is_pending && (player, low) == (u32::from(step.player), u32::from(step.entry)) {
+            sent[7] |= u32::from(kind == 5);
+            request[7] |= u32::from(step.kind == 5);
+        }
+    }
 }
 
 /// The requests of each player and of the loader, by the words of a players' table that keeps the rules.
@@ -379,9 +404,7 @@ impl Library for Wrong {
                 let oldest = oldest.map_or(0, |request| request[0]);
                 let_in(store, players, step, |r| r[0] == oldest)
             }
-            Point::NoShares if reply.code == 38 && used(players) < MAX_REQUESTS => {
-                let_in(store, players, step, |_| true)
-            }
+            Point::NoShares if reply.code == 38 => let_in(store, players, step, |_| true),
             Point::AbandonedUncounted if reply.code == 38 => {
                 let_in(store, players, step, |r| r[9] == 1)
             }

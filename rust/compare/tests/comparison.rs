@@ -1,10 +1,16 @@
 //! The port agrees with the model, every cell is filled, and the comparison sees every wrong library.
 
-use calls::{Library, KINDS};
+use calls::{Fields, Library, KINDS};
 use compare::cells::{Call, Counts, FIND_INTERVAL, LOAD};
-use compare::oracle::RIGHT;
+use compare::oracle::{Model, RIGHT};
 use compare::suites::{run_all, Plan};
-use compare::wrong::try_all;
+use compare::wrong::{try_all, Point, Wrong};
+use model::faults::Fault;
+use model::generate::step_for;
+use model::numbers::MAX_REQUESTS;
+use model::prng::Prng;
+use model::states::any_state;
+use model::tables::tables_of;
 use port::Port;
 
 /// A tenth of what the program `compare` does.
@@ -61,4 +67,38 @@ fn wrong_libraries_are_caught() {
         tried += 1;
     });
     assert_eq!(tried, 187);
+}
+
+/// The wrong libraries that count some requests not are wrong in that alone: where the right one has no place
+/// for a request, they do what the model does with the same fault, marks and all.
+#[test]
+fn uncounted_requests_get_their_marks() {
+    let pairs = [
+        (Point::OnePlaceMore, Fault::SeventeenthLetIn),
+        (Point::NoShares, Fault::NoShares),
+        (Point::AbandonedUncounted, Fault::AbandonedUncounted),
+        (Point::DeliveredUncounted, Fault::DeliveredUncounted),
+        (Point::LoadsUncounted, Fault::LoadsUncounted),
+    ];
+    let mut rng = Prng::new(7);
+    let mut let_in = [0; 5];
+    for _ in 0..30_000 {
+        let state = any_state(&mut rng);
+        let step = Fields::from(step_for(&mut rng, &state, Port.kinds()));
+        let start = tables_of(&state);
+        let (mut store, mut players) = start.clone();
+        let right = Port.step(&mut store, &mut players, step);
+        if right.code != 38 || state.requests.len() == MAX_REQUESTS {
+            continue;
+        }
+        for ((point, fault), let_in) in pairs.into_iter().zip(&mut let_in) {
+            let (mut wrong, mut model) = (start.clone(), start.clone());
+            let given = Wrong::In(point).step(&mut wrong.0, &mut wrong.1, step);
+            let expected = Model(fault).step(&mut model.0, &mut model.1, step);
+            assert_eq!(given, expected, "{point:?}, {step:?}");
+            assert!(wrong == model, "{point:?}, {step:?}");
+            *let_in += u32::from(given.code == 1);
+        }
+    }
+    assert!(let_in.iter().all(|&count| count > 50), "{let_in:?}");
 }

@@ -33,7 +33,7 @@
 //! # Places for requests
 //!
 //! At most [`REQUESTS`] requests are in flight. Each player has [`OWN_PLACES`] places of its own, so that one player's delayed writes do not
-//! keep another from asking; the loader, and a player with more requests, take one of the [`COMMON_PLACES`], and are refused
+//! keep another from asking; the loader, and a player that has as many already, take one of the [`COMMON_PLACES`], and are refused
 //! ([`Refusal::NoPlaceLeft`]) where these are taken.
 //!
 #![cfg_attr(feature = "alloc", doc = "```")]

@@ -63,11 +63,25 @@ pub struct Found {
 }
 
 /// Plays random lists with at most about this many steps until one breaks demand 3.
-pub fn search(seed: u64, most: usize, faults: &impl Switches) -> Option<Found> {
+pub fn search<S: Switches>(seed: u64, most: usize, faults: &S) -> Option<Found> {
+    search_by(random_list, seed, most, faults)
+}
+
+/// The same with lists that crowd the places for requests.
+pub fn search_crowded<S: Switches>(seed: u64, most: usize, faults: &S) -> Option<Found> {
+    search_by(crowded_list, seed, most, faults)
+}
+
+fn search_by<S: Switches>(
+    draw: impl Fn(&mut Prng, &S) -> (Vec<Event>, State),
+    seed: u64,
+    most: usize,
+    faults: &S,
+) -> Option<Found> {
     let mut rng = Prng::new(seed);
     let mut played = 0;
     while played < most {
-        let (history, state) = random_list(&mut rng, faults);
+        let (history, state) = draw(&mut rng, faults);
         if claim::check(&history, &state.store).is_err() {
             let steps: Vec<Step> = history.iter().map(|event| event.step).collect();
             let shortest = (1..=steps.len()).find(|&n| breaks(&steps[..n], faults).is_some())?;

@@ -1,11 +1,12 @@
 //! For each way to get the rules wrong: after how many random steps the checker of demand 3 sees it,
-//! which sentence fails, and how long the shortest list is that shows it.
+//! which sentence fails, and how long the shortest list is that shows it. Those that it should not see are
+//! tried on as many steps again of lists that crowd the places for requests.
 
 use std::process::ExitCode;
 
 use model::codec::session_text;
 use model::faults::{Fault, NoFault};
-use model::trial::search;
+use model::trial::{search, search_crowded};
 
 /// The seed with which all are found within 1,900,000 steps; another one as the first argument.
 const SEED: u64 = 1;
@@ -22,7 +23,10 @@ fn main() -> ExitCode {
             true => (40_000_000, true),
             false => (200_000, false),
         };
-        let found = search(seed, most, &fault);
+        let mut found = search(seed, most, &fault);
+        if found.is_none() && !breaks {
+            found = search_crowded(seed, most, &fault);
+        }
         if found.is_some() == breaks {
             passed += 1;
         } else {

@@ -13,7 +13,7 @@ use model::rules::{step, step_with};
 use model::state::State;
 use model::store_calls;
 use model::tables::{check_with, fresh_tables, tables_of, REQUESTS, STORE_WORDS};
-use model::trial::{play, search};
+use model::trial::{crowded_list, play, search, search_crowded};
 
 use crate::support::*;
 
@@ -45,28 +45,57 @@ fn caught_by_demand_3() {
     }
 }
 
-/// The faults that demand 3 lets by: no list breaks it, and some list gives another reply or other
-/// tables than the right rules do.
+/// The faults that demand 3 lets by: no list breaks it, be it one that crowds the places for requests, and
+/// some list gives another reply or other tables than the right rules do.
 #[test]
 fn caught_by_comparison_only() {
     for fault in Fault::ALL.into_iter().filter(|f| !f.breaks_demand_3()) {
         assert!(search(seed(), 200_000 * scale(), &fault).is_none());
-        // Only the store used alone shows the first two, only tables without a serial left the next two, and
-        // only the test of tables the last three.
-        if matches!(
-            fault,
-            Fault::BarredMatches
-                | Fault::IntervalWithoutGuard
-                | Fault::LoadSerialFirst
-                | Fault::SerialBeforePlace
-                | Fault::SharesUntested
-                | Fault::FullSharesRefused
-                | Fault::SharesOfPendingAlone
-        ) {
+        assert!(search_crowded(seed(), 200_000 * scale(), &fault).is_none());
+        if is_unseen_from_fresh(fault) {
             continue;
         }
         let after = differs_after(fault).unwrap_or_else(|| panic!("{fault:?} changes nothing"));
         println!("{fault:?}: differs from the right rules after {after} steps");
+    }
+}
+
+/// Only the store used alone shows the first two, only tables without a serial left the next two, and only the
+/// test of tables the last three.
+fn is_unseen_from_fresh(fault: Fault) -> bool {
+    matches!(
+        fault,
+        Fault::BarredMatches
+            | Fault::IntervalWithoutGuard
+            | Fault::LoadSerialFirst
+            | Fault::SerialBeforePlace
+            | Fault::SharesUntested
+            | Fault::FullSharesRefused
+            | Fault::SharesOfPendingAlone
+    )
+}
+
+/// Crowded lists come to the places, so that demand 3 is tried where a fault of the shares does something: on
+/// lists that get other replies than by the right rules. A read from memory where its player has no place left
+/// is the rarest.
+#[test]
+fn crowded_lists_show_the_shares() {
+    let all = Fault::ALL.into_iter();
+    let shares = all.skip_while(|&fault| fault != Fault::AbandonedUncounted);
+    for fault in shares.filter(|&fault| !is_unseen_from_fresh(fault)) {
+        let mut rng = Prng::new(seed());
+        let (mut lists, mut others) = (0, 0);
+        while others < 10 * scale() {
+            assert!(lists < 20_000 * scale(), "{fault:?}: {others} lists");
+            lists += 1;
+            let (history, state) = crowded_list(&mut rng, &fault);
+            let steps: Vec<Step> = history.iter().map(|event| event.step).collect();
+            if play(&steps, &NoFault).0 != history {
+                others += 1;
+                assert_eq!(model::claim::check(&history, &state.store), Ok(()));
+            }
+        }
+        println!("{fault:?}: {others} of {lists} crowded lists get other replies");
     }
 }
 

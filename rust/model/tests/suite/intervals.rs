@@ -111,7 +111,7 @@ fn the_stores_guard() {
     assert_eq!(found(&steps, &[45]), [(40, 59)]);
 }
 
-/// "and alters nothing": no serial is taken, no place is needed, and 28 to 35 do not occur.
+/// "and alters nothing": no serial is taken, no place is needed, and 28 to 35 and 38 do not occur.
 #[test]
 fn nothing_is_altered() {
     let mut state = state_after(&then(&[read(0, 45), write(0, 46, 7), deliver(3)]));

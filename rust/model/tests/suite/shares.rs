@@ -33,7 +33,7 @@ fn after(parts: &[Vec<Step>]) -> State {
     state_after(&parts.concat())
 }
 
-/// What the next request of a player, and the next load, would get.
+/// The number that a step would be replied to with; the state stays.
 fn next(state: &State, step: Step) -> u32 {
     rules::step(&mut state.clone(), step).code
 }
@@ -364,18 +364,21 @@ fn any_state_keeps_the_shares() {
     let (mut full, mut at_limit, mut turned_away, mut fewer) = (0, 0, 0, 0);
     for _ in 0..5_000 * scale() {
         let mut state = any_state(&mut rng);
-        let is_at_limit = common(&state) == 16;
         full += u32::from(state.requests.len() == 64);
-        at_limit += u32::from(is_at_limit);
+        at_limit += u32::from(common(&state) == 16);
         for _ in 0..5 {
             let step = step_for(&mut rng, &state, KINDS);
             turned_away += u32::from(taken(&mut state, step) == 38);
         }
-        // Every player in turn: those with fewer than 6 are let in, where a serial is left.
+        // Every player in turn: those with fewer than 6 are let in, or read from memory, where a serial is left.
+        let is_at_limit = common(&state) == 16;
         for player in 0..8 {
             let few = counts(&state.requests)[usize::from(player)] < 6;
-            let code = next(&state, read(player, 200));
-            assert!(!few || code != 38);
+            match next(&state, read(player, 200)) {
+                1 | 2 => {}
+                34 => assert_eq!(state.last_serial, MAX_SERIAL),
+                code => assert!(code == 38 && !few && is_at_limit, "{code}"),
+            }
             fewer += u32::from(few && is_at_limit);
         }
         let (store, players) = tables_of(&state);
