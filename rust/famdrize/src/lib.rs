@@ -71,6 +71,7 @@ extern crate std;
 
 pub mod raw;
 
+mod look;
 mod numbers;
 #[cfg(feature = "alloc")]
 mod owned;

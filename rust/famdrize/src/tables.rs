@@ -1,5 +1,6 @@
 //! The two tables, lent, and the steps on them.
 
+use crate::look::Look;
 use crate::reply::accepted;
 use crate::requests::in_table;
 use crate::{pending, preview, raw, Fields, Player, Refusal, Reply, Report, Request, Step};
@@ -74,6 +75,12 @@ impl<'a> TablesMut<'a> {
         players: &'a mut [u32; PLAYERS_WORDS],
     ) -> TablesMut<'a> {
         TablesMut { store, players }
+    }
+
+    /// Both tables, for reading.
+    pub(crate) fn look(&self) -> Look<'_> {
+        let (store, players) = (&*self.store, &*self.players);
+        Look { store, players }
     }
 
     /// The words of the store's table, as docs/FORMATS.md lays them out.

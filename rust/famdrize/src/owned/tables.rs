@@ -5,6 +5,7 @@ use alloc::vec;
 use alloc::vec::Vec;
 
 use super::{array, zeros};
+use crate::look::Look;
 use crate::requests::in_table;
 use crate::tables::{last_serial, pending_in};
 use crate::{preview, Fields, Player, Refusal, Reply, Report, Request, Step, TablesMut};
@@ -59,6 +60,12 @@ impl Tables {
     #[must_use]
     pub fn lend(&mut self) -> TablesMut<'_> {
         TablesMut::kept(&mut self.store, &mut self.players)
+    }
+
+    /// Both tables, for reading.
+    pub(crate) fn look(&self) -> Look<'_> {
+        let (store, players) = (&*self.store, &*self.players);
+        Look { store, players }
     }
 
     /// The words of the store's table, as docs/FORMATS.md lays them out.
