@@ -72,6 +72,7 @@ text{font-family:Helvetica,Arial,'Liberation Sans','DejaVu Sans',sans-serif;font
 .thin{stroke:#111;stroke-width:1;fill:none}
 .dots{stroke:#111;stroke-width:1;fill:none;stroke-dasharray:1.5 2.5}
 .plate{fill:#fff;stroke:none}
+.under{stroke:#fff;stroke-width:6;fill:none}
 .refused{fill:#fff;stroke:#111;stroke-width:1.6}
 .number{font-size:10.5px;font-weight:bold;text-anchor:middle}
 .stop{stroke:#111;stroke-width:1.6;fill:none}
@@ -121,7 +122,7 @@ pub fn define(svg: &mut Svg, senders: &[Sender]) {
                 tile(svg, &format!("p{}", player.number()), light, dark, lines);
             }
         }
-        tile(svg, "barred", "#666666", "#ffffff", PATTERNS[6]);
+        tile(svg, "barred", "#b4b4b4", "#ffffff", PATTERNS[6]);
         tile(svg, "damage", "#ffffff", "#111111", PATTERNS[0]);
     });
 }

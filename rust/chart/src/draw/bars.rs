@@ -40,8 +40,11 @@ impl Drawn<'_> {
     }
 }
 
-/// Draws all bars, and the boundaries.
+/// Draws all bars, and the boundaries; none where there is no row to draw them along.
 pub fn draw(svg: &mut Svg, story: &Story, layout: &Layout) {
+    if layout.rows.is_empty() {
+        return;
+    }
     for column in &layout.columns {
         let Sender::Player(player) = column.sender else {
             continue;

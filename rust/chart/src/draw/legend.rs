@@ -26,7 +26,7 @@ pub fn draw(svg: &mut Svg, story: &Story, layout: &Layout, top: f64) -> f64 {
     let items = items(story, layout);
     let left = ORDINALS - 20.0;
     let columns = (((layout.width - left) / ITEM) as usize).clamp(1, 4);
-    let lines = items.len().div_ceil(columns);
+    let lines = items.len().div_ceil(columns).max(1);
     let mut y = top;
     svg.group("g", &[("class", &"legend")], |svg| {
         for (at, (sample, words)) in items.iter().enumerate() {
@@ -84,6 +84,9 @@ fn wrapped(text: &str, width: f64) -> Vec<String> {
 /// Lines, bars and signs that occur in the rows shown, each with its words.
 fn items<'a>(story: &Story, layout: &Layout) -> Vec<(Sample<'a>, &'static str)> {
     let mut items: Vec<(Sample, &'static str)> = Vec::new();
+    if layout.rows.is_empty() {
+        return items;
+    }
     let seen = flights(story, layout);
     let any = |test: &dyn Fn(&Flight) -> bool| seen.iter().any(|flight| test(flight));
     let kind = |test: fn(&Purpose) -> bool| any(&|flight| test(&flight.purpose));

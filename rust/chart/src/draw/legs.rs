@@ -11,6 +11,8 @@ use crate::words;
 const LOST: f64 = 0.6;
 /// How far the first of those comes that are in flight at the end, how much less each later one at the most, and all of them together.
 const IN_FLIGHT: (f64, f64, f64) = (0.85, 0.25, 0.65);
+/// From where they end to the end of the rows.
+const BEFORE_END: f64 = 3.0;
 /// From the tip of an arrow to the lifeline, where a sign stands.
 const TIP: f64 = 6.0;
 
@@ -105,7 +107,7 @@ impl Ends<'_> {
 /// The legs of a request.
 fn legs(story: &Story, layout: &Layout, flight: &Flight, ends: &Ends) -> Vec<Leg> {
     let (sender, store) = (layout.x(flight.sender), layout.store);
-    let end = layout.unclipped(story.events.len()) + ROW / 2.0;
+    let end = layout.unclipped(story.events.len()) + ROW / 2.0 - BEFORE_END;
     let at = |x: f64, step: usize| (x, layout.unclipped(step));
     let asked = flight.asked;
     let forth = |to: Point, step: Option<usize>, head: Head| Leg {

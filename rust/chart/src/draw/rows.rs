@@ -177,6 +177,7 @@ fn in_strip(svg: &mut Svg, story: &Story, layout: &Layout, event: &Event, sign: 
         let (left, right) = (strip.edge(lane(first)), strip.edge(lane(last) + 1));
         let (left, right, y, above) = (N(left), N(right), N(y), N(y - 5.0));
         let line = format!("M{left} {y} H{right} M{left} {above} v10 M{right} {above} v10");
+        svg.leaf("path", &[("class", &"under"), ("d", &line)]);
         let attributes: &[(&str, &dyn std::fmt::Display)] = &[
             ("class", &"cross reach"),
             ("data-entries", &format!("{first}-{last}")),
