@@ -2,7 +2,7 @@
 
 use std::fmt;
 
-use famdrize::{Player, Reply, Request, Step, Tables, LOADER, OPEN_GUARD};
+use famdrize::{Player, Range, Request, Step, Tables, LOADER};
 
 /// Who sends a request.
 #[derive(Clone, Copy, Debug, PartialEq, Eq, PartialOrd, Ord)]
@@ -39,7 +39,7 @@ impl fmt::Display for Sender {
 /// What a request is for.
 #[derive(Clone, Copy, Debug, PartialEq, Eq)]
 pub enum Purpose {
-    Guard { first: u8, last: u8 },
+    Guard { range: Range },
     Read { entry: u8 },
     Write { entry: u8, value: u32 },
 }
@@ -50,8 +50,7 @@ impl Purpose {
         let (entry, value) = (request.low, request.value);
         match request.kind {
             3 => Purpose::Guard {
-                first: entry,
-                last: u8::try_from(request.high - 1).expect("a range ends at 256 at the latest"),
+                range: Range::new(entry, request.high).expect("a guard request has a range"),
             },
             4 => Purpose::Read { entry },
             5 => Purpose::Write { entry, value },
@@ -69,8 +68,10 @@ pub enum Outcome {
         version: u32,
         value: u32,
     },
-    Committed,
-    /// With the guard that the store had for the entry.
+    /// With the guard that the store has for the entry; so below.
+    Committed {
+        guard: u32,
+    },
     TurnedBack {
         guard: u32,
     },
@@ -82,8 +83,8 @@ impl Outcome {
     fn of(flight: &Flight, arrived: Option<&Request>, tables: &Tables) -> Outcome {
         let done = |seen: bool| arrived.map_or(seen, |request| request.first == 1);
         match flight.purpose {
-            Purpose::Guard { first, .. } => {
-                match done(tables.find_interval(first).guard == flight.serial) {
+            Purpose::Guard { range } => {
+                match done(tables.find_interval(range.low()).guard == flight.serial) {
                     true => Outcome::GuardSet,
                     false => Outcome::GuardNotSet,
                 }
@@ -96,11 +97,10 @@ impl Outcome {
                 Outcome::Found { version, value }
             }
             Purpose::Write { entry, .. } => {
+                let guard = tables.find_interval(entry).guard;
                 match done(tables.read_store(entry).version == flight.serial) {
-                    true => Outcome::Committed,
-                    false => Outcome::TurnedBack {
-                        guard: tables.find_interval(entry).guard,
-                    },
+                    true => Outcome::Committed { guard },
+                    false => Outcome::TurnedBack { guard },
                 }
             }
         }
@@ -154,11 +154,6 @@ impl Flight {
             end: End::InFlight,
         }
     }
-
-    /// Whether it carries a guard: a load and a request for one do not, and a read may not.
-    pub fn carries_guard(&self) -> bool {
-        self.guard != OPEN_GUARD
-    }
 }
 
 /// All requests of a session, in rising serial, and the places of the tables as they are now.
@@ -170,13 +165,13 @@ pub struct Flights {
 
 impl Flights {
     /// Takes up what a step that was not refused changed.
-    pub fn follow(&mut self, ordinal: usize, step: Step, reply: Reply, tables: &Tables) {
+    pub fn follow(&mut self, ordinal: usize, step: Step, tables: &Tables) {
         let mut now = tables.requests();
         now.retain(|request| request.serial != 0);
         let before = std::mem::replace(&mut self.now, now);
         for request in &before {
             if find(&self.now, request.serial).is_none() {
-                self.leave(request.serial, ordinal, step, reply, tables);
+                self.leave(request.serial, ordinal, step, tables);
             }
         }
         for at in 0..self.now.len() {
@@ -200,7 +195,7 @@ impl Flights {
     }
 
     /// The request of this serial left the tables: which step that was tells how.
-    fn leave(&mut self, serial: u32, ordinal: usize, step: Step, reply: Reply, tables: &Tables) {
+    fn leave(&mut self, serial: u32, ordinal: usize, step: Step, tables: &Tables) {
         let flight = self.flight_mut(serial);
         flight.end = match step {
             Step::Respond { .. } => End::Answered(ordinal),
@@ -211,10 +206,6 @@ impl Flights {
             }
             _ => End::Dropped(ordinal),
         };
-        assert!(
-            !matches!(reply, Reply::Refused(_)),
-            "a refused step alters nothing"
-        );
     }
 
     /// The request of this serial, if there ever was one.

@@ -11,6 +11,10 @@ use crate::words;
 
 /// From one row to the next.
 pub const ROW: f64 = 32.0;
+/// The left edge of the text above and below the rows, and the heights of that above them.
+pub const LEFT: f64 = 20.0;
+pub const TITLE: f64 = 26.0;
+pub const SUBTITLE: f64 = 46.0;
 /// The right edge of the ordinals, and the middle of the margin, where steps stand that are nobody's on a lifeline.
 pub const ORDINALS: f64 = 40.0;
 pub const MARGIN: f64 = 60.0;
@@ -25,8 +29,10 @@ const NEXT_LIFELINE: f64 = 84.0;
 const WAY: f64 = 190.0;
 /// From the store's strip to the rows' text.
 const TEXT_GAP: f64 = 18.0;
-/// The right edge of the picture, behind the text.
-const EDGE: f64 = 12.0;
+/// The width of a column of the legend.
+pub const LEGEND: f64 = 318.0;
+/// From the text to the right edge of the picture.
+pub const EDGE: f64 = 12.0;
 /// The top of the heads, and their size.
 pub const HEADS: f64 = 64.0;
 pub const HEAD_HEIGHT: f64 = 22.0;
@@ -35,10 +41,14 @@ pub const HEAD_WIDTH: f64 = 72.0;
 const WIDEST_LANE: f64 = 26.0;
 const NARROWEST_LANE: f64 = 3.0;
 const STRIP_WIDTH: f64 = 156.0;
+/// From the heads to the lanes' entries, and from those to the rows.
+const ABOVE_LANES: f64 = 8.0;
+pub const ABOVE_ROWS: f64 = 6.0;
 /// The narrowest lane that has its entries written above it.
 const LABELLED_LANE: f64 = 11.0;
 
-/// Sizes of letters: a row's step, its reply, and small ones.
+/// Sizes of letters: the title, a row's step, its reply, and small ones.
+pub const TITLE_SIZE: f64 = 17.0;
 pub const STEP_SIZE: f64 = 12.0;
 pub const REPLY_SIZE: f64 = 11.0;
 pub const SMALL_SIZE: f64 = 10.0;
@@ -123,19 +133,14 @@ impl Layout {
             .collect();
         let guards = Strip::new(store + BESIDE, story.guards.lanes(&cuts, None));
         let text = guards.right() + TEXT_GAP;
-        let shown = &story.events[rows.start() - 1..*rows.end()];
-        let widest = shown.iter().map(|event| {
-            let step = text_width(&words::step(event), STEP_SIZE);
-            step.max(text_width(&words::reply(story, event), REPLY_SIZE))
-        });
-        let width = text + widest.fold(300.0, f64::max) + EDGE;
+        let width = widest(story, &rows, text) + EDGE;
         let strips = columns.iter().map(|column| &column.strip).chain([&guards]);
         let labels = strips.filter(|strip| strip.is_labelled());
-        let longest = labels.flat_map(|strip| &strip.lanes).map(|lane| {
+        let lengths = labels.flat_map(|strip| &strip.lanes).map(|lane| {
             let label = words::lane(lane.start, lane.end - 1);
             text_width(&label, SMALL_SIZE)
         });
-        let top = HEADS + HEAD_HEIGHT + 8.0 + longest.fold(0.0, f64::max) + 6.0;
+        let top = HEADS + HEAD_HEIGHT + ABOVE_LANES + lengths.fold(0.0, f64::max) + ABOVE_ROWS;
         Layout {
             rows,
             columns,
@@ -182,6 +187,21 @@ impl Layout {
             .expect("every sender has a lifeline")
             .x
     }
+}
+
+/// How far the text reaches to the right, of rows whose text begins at a place.
+fn widest(story: &Story, rows: &Rows, text: f64) -> f64 {
+    let shown = &story.events[rows.start() - 1..*rows.end()];
+    let of_rows = shown.iter().map(|event| {
+        let step = text_width(&words::step(event), STEP_SIZE);
+        text + step.max(text_width(&words::reply(story, event), REPLY_SIZE))
+    });
+    let mut lines = words::below(story, rows);
+    lines.push(words::subtitle(story, rows));
+    let of_lines = lines.iter().map(|line| LEFT + text_width(line, STEP_SIZE));
+    let title = text_width(&words::title(story), TITLE_SIZE);
+    let least = LEFT + title.max(LEGEND);
+    of_rows.chain(of_lines).fold(least.max(text), f64::max)
 }
 
 /// The entries that a sender ever owns, as lanes.

@@ -4,7 +4,7 @@
 //! by itself, and what it did is read off the tables that it left. Whether a guard is live, or a value is remembered, is asked of the library
 //! too: by a write, or a read, that is tried and not taken.
 
-use famdrize::{decode, Fields, Player, Refusal, Reply, Report, Step, Tables};
+use famdrize::{decode, Fields, Player, Refusal, Reply, Report, Step, Tables, Why};
 
 use crate::flight::{Flight, Flights, Purpose, Sender};
 use crate::strip::History;
@@ -130,6 +130,11 @@ impl Story {
         teller.finish(session.len(), report, rest)
     }
 
+    /// Whether the run, or a record, is refused.
+    pub fn is_damaged(&self) -> bool {
+        matches!(self.report.why, Why::Refused(_))
+    }
+
     /// The request of this serial, which there was.
     pub fn flight(&self, serial: u32) -> &Flight {
         let found = self
@@ -195,7 +200,7 @@ impl Teller {
         let before = step.and_then(|step| self.memory_of_answered(step));
         let reply = self.tables.step_fields(fields);
         if let (Some(step), Ok(_)) = (step, reply.into_result()) {
-            self.flights.follow(ordinal, step, reply, &self.tables);
+            self.flights.follow(ordinal, step, &self.tables);
             self.look(ordinal);
         }
         let after = step.and_then(|step| self.memory_of_answered(step));
@@ -321,7 +326,15 @@ fn deed(
         (_, Reply::Refused(refusal)) => Deed::Refused(refusal),
         (Some(Step::Assign { .. }), _) => Deed::Assigned,
         (Some(Step::Release { .. }), _) => Deed::Released,
-        (Some(_), Reply::Issued { serial }) => Deed::Asked(serial),
+        (
+            Some(
+                Step::RequestGuard { .. }
+                | Step::Read { .. }
+                | Step::Write { .. }
+                | Step::Load { .. },
+            ),
+            Reply::Issued { serial },
+        ) => Deed::Asked(serial),
         (Some(Step::Read { .. }), Reply::CacheRead { .. }) => Deed::FromMemory,
         (Some(Step::Deliver { serial }), _) => Deed::Arrived(serial),
         (Some(Step::Respond { serial }), Reply::StoreRead { version, value }) => {

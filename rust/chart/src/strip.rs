@@ -171,7 +171,8 @@ mod tests {
             [40..50, 50..55, 55..60]
         );
         assert_eq!(History::new(|_| 0).lanes(&[], Some(&0)), []);
-        assert_eq!(History::new(|_| 0).lanes(&[], None), [0..256]);
+        let all = History::new(|_| 0).lanes(&[], None);
+        assert_eq!((all.len(), &all[0]), (1, &(0..256)));
     }
 
     #[test]

@@ -3,7 +3,7 @@
 use famdrize::Player;
 
 use crate::flight::Sender;
-use crate::svg::{Svg, N};
+use crate::svg::{Attributes, Svg, N};
 
 /// The colours of the players' lines, and a light one for their bars: dark enough for thin lines on white.
 const COLOURS: [(&str, &str); 8] = [
@@ -137,7 +137,7 @@ fn colours(sender: Sender) -> (&'static str, &'static str) {
 /// A pattern: lines on a ground.
 fn tile(svg: &mut Svg, id: &str, ground: &str, colour: &str, lines: &str) {
     let size = N(8.0);
-    let attributes: &[(&str, &dyn std::fmt::Display)] = &[
+    let attributes: Attributes = &[
         ("id", &id),
         ("width", &size),
         ("height", &size),

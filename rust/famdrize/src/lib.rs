@@ -30,6 +30,11 @@
 //! [`PREVIEW_RECORDS`] records; `Tables` has both. They alter nothing but the list for the replies, and take about 44 KB of stack, for copies
 //! of the tables.
 //!
+//! # Looking at the tables
+//!
+//! [`TablesMut::owner`], [`epoch`](TablesMut::epoch), [`held_guard`](TablesMut::held_guard), [`begins_tablet`](TablesMut::begins_tablet),
+//! [`find_interval`](TablesMut::find_interval) and [`read_store`](TablesMut::read_store) tell what stands in them; `Tables` has the same.
+//!
 //! # Places for requests
 //!
 //! At most [`REQUESTS`] requests are in flight. Each player has [`OWN_PLACES`] places of its own, so that one player's delayed writes do not

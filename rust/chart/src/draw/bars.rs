@@ -1,16 +1,14 @@
 //! Bars beside the lifelines: who owns which entries, under which live guard, and which guard the store has.
 
-use std::ops::Range;
-
 use famdrize::{Player, BARRED, OPEN_GUARD};
 
 use super::rows;
 use crate::flight::Sender;
-use crate::layout::{of_player, text_width, Layout, Strip, SMALL_SIZE};
+use crate::layout::{of_player, text_width, Layout, Strip, ABOVE_ROWS, SMALL_SIZE};
 use crate::story::{Hold, Story};
 use crate::strip::Block;
 use crate::style;
-use crate::svg::{Svg, N};
+use crate::svg::{Attributes, Svg, N};
 use crate::words;
 
 /// From one label of a long bar to the next.
@@ -24,18 +22,17 @@ const MET: f64 = 8.0;
 struct Drawn<'a> {
     layout: &'a Layout,
     strip: &'a Strip,
-    /// The rows that have something in a lane, in their order, with those lanes.
-    met: Vec<(f64, Range<usize>)>,
+    /// The rows that have something in the lanes up to one, in their order.
+    met: Vec<(f64, usize)>,
 }
 
 impl Drawn<'_> {
-    /// The rows from one height to another that have something in one of these lanes.
-    fn taken(&self, lanes: &Range<usize>, top: f64, bottom: f64) -> Vec<f64> {
+    /// The rows from one height to another that have something in a lane from this one on.
+    fn taken(&self, lane: usize, top: f64, bottom: f64) -> Vec<f64> {
         let first = self.met.partition_point(|(row, _)| *row < top);
         let rows = self.met[first..].iter();
         let rows = rows.take_while(|(row, _)| *row < bottom);
-        let touches = |other: &Range<usize>| other.start < lanes.end && lanes.start < other.end;
-        let rows = rows.filter(|(_, met)| touches(met));
+        let rows = rows.filter(|(_, met)| *met >= lane);
         rows.map(|(row, _)| *row).collect()
     }
 }
@@ -110,7 +107,7 @@ fn lanes(
         .iter()
         .map(|lane| format!("{}-{}", lane.start, lane.end - 1))
         .collect();
-    let attributes: &[(&str, &dyn std::fmt::Display)] = &[
+    let attributes: Attributes = &[
         ("class", &"strip"),
         ("data-of", &whose),
         ("data-lanes", &lanes.join(" ")),
@@ -121,7 +118,7 @@ fn lanes(
         if strip.is_labelled() {
             for (at, lane) in strip.lanes.iter().enumerate() {
                 let x = strip.edge(at) + strip.lane / 2.0 + 3.5;
-                let y = layout.top - 6.0;
+                let y = layout.top - ABOVE_ROWS;
                 let label = words::lane(lane.start, lane.end - 1);
                 upright(svg, "small", x, y, &label);
             }
@@ -147,9 +144,9 @@ fn bar<T>(svg: &mut Svg, at: &Drawn, block: &Block<T>, class: &str, label: &str)
     let (left, right) = (strip.edge(block.lanes.start), strip.edge(block.lanes.end));
     let first = strip.lanes[block.lanes.start].start;
     let last = strip.lanes[block.lanes.end - 1].end - 1;
-    let to = block.to.map_or("end".to_string(), |to| to.to_string());
+    let to = words::step_or_end(block.to);
     let class = format!("bar {class}");
-    let attributes: &[(&str, &dyn std::fmt::Display)] = &[
+    let attributes: Attributes = &[
         ("class", &class),
         ("data-entries", &format!("{first}-{last}")),
         ("data-from", &block.from),
@@ -164,12 +161,15 @@ fn bar<T>(svg: &mut Svg, at: &Drawn, block: &Block<T>, class: &str, label: &str)
         let told = format!("entries {}: {label}", words::lane(first, last));
         svg.text("title", &[], &told);
     });
-    let taken = at.taken(&block.lanes, top, bottom);
+    let taken = at.taken(block.lanes.start, top, bottom);
     let mut y = top;
-    while y < bottom {
+    loop {
         let room = (y + 3.0, bottom.min(y + LABELS) - 2.0);
         name(svg, (left, right), room, &taken, label);
         y += LABELS;
+        if y + LABELS / 2.0 > bottom {
+            return;
+        }
     }
 }
 
@@ -239,9 +239,9 @@ fn boundaries(svg: &mut Svg, story: &Story, layout: &Layout) {
         }
         let lane = strip.lane_of(boundary.entry.into());
         let x = strip.edge(lane.expect("the store's lanes have all entries"));
-        let to = boundary.to.map_or("end".to_string(), |to| to.to_string());
+        let to = words::step_or_end(boundary.to);
         let line = format!("M{} {} V{}", N(x), N(top), N(bottom));
-        let attributes: &[(&str, &dyn std::fmt::Display)] = &[
+        let attributes: Attributes = &[
             ("class", &"boundary"),
             ("data-entry", &boundary.entry),
             ("data-from", &boundary.from),

@@ -2,21 +2,14 @@
 
 use famdrize::Reply;
 
-use crate::layout::{Layout, HEADS, HEAD_HEIGHT, HEAD_WIDTH, ORDINALS, ROW};
+use crate::layout::{Layout, HEADS, HEAD_HEIGHT, HEAD_WIDTH, LEFT, ROW, SUBTITLE, TITLE};
 use crate::story::{Deed, Story};
-use crate::svg::{Svg, N};
+use crate::svg::{Attributes, Svg, N};
 use crate::words;
 
 /// After how many rows the names of the lifelines are said again, if as many rows as that come after it.
 const NAMES: usize = 20;
 const ROWS_AFTER: usize = 10;
-
-/// The title of a chart.
-pub fn title(story: &Story) -> String {
-    let records = story.events.len();
-    let noun = if records == 1 { "record" } else { "records" };
-    format!("A session of {} bytes: {records} {noun}", story.length)
-}
 
 /// What a chart shows, for those who do not see it.
 pub fn description(story: &Story, layout: &Layout) -> String {
@@ -47,29 +40,20 @@ pub fn description(story: &Story, layout: &Layout) -> String {
 
 /// Draws the title, the bands, and the lifelines with their names.
 pub fn draw(svg: &mut Svg, story: &Story, layout: &Layout) {
-    let left = N(ORDINALS - 20.0);
     let text = |svg: &mut Svg, class: &str, y: f64, text: &str| {
-        svg.text(
-            "text",
-            &[("class", &class), ("x", &left), ("y", &N(y))],
-            text,
-        );
+        let (left, y) = (N(LEFT), N(y));
+        svg.text("text", &[("class", &class), ("x", &left), ("y", &y)], text);
     };
-    text(svg, "title", 26.0, &title(story));
+    text(svg, "title", TITLE, &words::title(story));
+    text(svg, "step", SUBTITLE, &words::subtitle(story, &layout.rows));
     let (first, last) = (*layout.rows.start(), *layout.rows.end());
-    let part = match story.events.len() {
-        records if first > 1 || last < records => format!("Records {first} to {last}. "),
-        _ => String::new(),
-    };
-    text(svg, "step", 46.0, &format!("{part}{}", sentence(story)));
     bands(svg, layout);
     let (top, bottom) = (N(HEADS + HEAD_HEIGHT), N(layout.bottom()));
     for (name, x) in names(layout) {
         let line = format!("M{} {top} V{bottom}", N(x));
-        let attributes: &[(&str, &dyn std::fmt::Display)] =
-            &[("class", &"lifeline"), ("data-of", &name), ("d", &line)];
+        let attributes: Attributes = &[("class", &"lifeline"), ("data-of", &name), ("d", &line)];
         svg.leaf("path", attributes);
-        let head: &[(&str, &dyn std::fmt::Display)] = &[
+        let head: Attributes = &[
             ("class", &"head"),
             ("x", &N(x - HEAD_WIDTH / 2.0)),
             ("y", &N(HEADS)),
@@ -88,19 +72,11 @@ pub fn draw(svg: &mut Svg, story: &Story, layout: &Layout) {
             .skip(1)
         {
             let y = N(layout.unclipped(row) - ROW / 2.0 + 3.5);
-            let attributes: &[(&str, &dyn std::fmt::Display)] =
+            let attributes: Attributes =
                 &[("class", &"small middle halo"), ("x", &N(x)), ("y", &y)];
             svg.text("text", attributes, &name);
         }
     }
-}
-
-/// The report as a sentence that begins with a capital letter.
-fn sentence(story: &Story) -> String {
-    let told = story.report.to_string();
-    let mut letters = told.chars();
-    let first = letters.next().into_iter().flat_map(char::to_uppercase);
-    format!("{}{}.", first.collect::<String>(), letters.as_str())
 }
 
 /// The lifelines, each with its name and place.

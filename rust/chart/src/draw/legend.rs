@@ -8,42 +8,61 @@ use super::legs::sign_of_crossing;
 use super::rows::{shown, sign};
 use super::signs::Sign;
 use crate::flight::{End, Flight, Purpose, Sender};
-use crate::layout::{text_width, Layout, ORDINALS, REPLY_SIZE};
+use crate::layout::{text_width, Layout, EDGE, LEFT, LEGEND, REPLY_SIZE};
 use crate::story::{Deed, Story};
 use crate::style;
-use crate::svg::{Svg, N};
+use crate::svg::{Attributes, Svg, N};
 
-/// From one line of the legend to the next, the width of a sample, and that of an item.
+/// From one line of the legend to the next, and the width of a sample.
 const LINE: f64 = 19.0;
 const SAMPLE: f64 = 34.0;
-const ITEM: f64 = 300.0;
 
-/// How an item's sample is drawn, around the point in its middle.
-type Sample<'a> = Box<dyn Fn(&mut Svg, f64, f64) + 'a>;
+/// How a sample is drawn, around the point in its middle.
+type Sample = Box<dyn Fn(&mut Svg, f64, f64)>;
+
+/// What one line of the legend tells.
+struct Item {
+    /// Its name in the file.
+    name: &'static str,
+    words: &'static str,
+    sample: Sample,
+}
+
+fn item(name: &'static str, words: &'static str, sample: Sample) -> Item {
+    Item {
+        name,
+        words,
+        sample,
+    }
+}
 
 /// Draws the legend from a height on, and tells the height after it.
 pub fn draw(svg: &mut Svg, story: &Story, layout: &Layout, top: f64) -> f64 {
     let items = items(story, layout);
-    let left = ORDINALS - 20.0;
-    let columns = (((layout.width - left) / ITEM) as usize).clamp(1, 4);
+    let columns = (((layout.width - LEFT) / LEGEND) as usize).clamp(1, 4);
     let lines = items.len().div_ceil(columns).max(1);
     let mut y = top;
     svg.group("g", &[("class", &"legend")], |svg| {
-        for (at, (sample, words)) in items.iter().enumerate() {
+        for (at, item) in items.iter().enumerate() {
             let (column, line) = (at / lines, at % lines);
-            let x = left + column as f64 * ITEM;
+            let x = LEFT + column as f64 * LEGEND;
             let y = top + line as f64 * LINE;
-            svg.group("g", &[("aria-hidden", &"true")], |svg| {
-                sample(svg, x + SAMPLE / 2.0, y);
+            let attributes: Attributes = &[
+                ("class", &"sample"),
+                ("aria-hidden", &"true"),
+                ("data-is", &item.name),
+            ];
+            svg.group("g", attributes, |svg| {
+                (item.sample)(svg, x + SAMPLE / 2.0, y);
             });
             let x = N(x + SAMPLE + 8.0);
-            svg.text("text", &[("x", &x), ("y", &N(y + 4.0))], words);
+            svg.text("text", &[("x", &x), ("y", &N(y + 4.0))], item.words);
         }
         y += lines as f64 * LINE + 4.0;
         for refusal in refusals(story, layout) {
             let told = format!("{}: {}", refusal.number(), refusal.words());
-            for line in wrapped(&told, layout.width - left - 12.0) {
-                svg.text("text", &[("x", &N(left)), ("y", &N(y + 4.0))], &line);
+            for line in wrapped(&told, layout.width - LEFT - EDGE) {
+                svg.text("text", &[("x", &N(LEFT)), ("y", &N(y + 4.0))], &line);
                 y += LINE - 3.0;
             }
         }
@@ -81,51 +100,82 @@ fn wrapped(text: &str, width: f64) -> Vec<String> {
     lines
 }
 
-/// Lines, bars and signs that occur in the rows shown, each with its words.
-fn items<'a>(story: &Story, layout: &Layout) -> Vec<(Sample<'a>, &'static str)> {
-    let mut items: Vec<(Sample, &'static str)> = Vec::new();
+/// Lines, bars and signs that occur in the rows shown.
+fn items(story: &Story, layout: &Layout) -> Vec<Item> {
     if layout.rows.is_empty() {
-        return items;
+        return Vec::new();
     }
-    let seen = flights(story, layout);
-    let any = |test: &dyn Fn(&Flight) -> bool| seen.iter().any(|flight| test(flight));
-    let kind = |test: fn(&Purpose) -> bool| any(&|flight| test(&flight.purpose));
-    if kind(|purpose| matches!(purpose, Purpose::Guard { .. })) {
-        items.push((line("guard", ""), "request for a guard, to the store"));
-    }
-    if kind(|purpose| matches!(purpose, Purpose::Read { .. })) {
-        items.push((line("read", ""), "read, to the store"));
-    }
-    if kind(|purpose| matches!(purpose, Purpose::Write { .. })) {
-        items.push((line("write", ""), "write or load, to the store"));
-    }
-    if any(&|flight| matches!(flight.end, End::Answered(_))) {
-        items.push((line("answer", ""), "answer, from the store"));
-    }
-    if any(&|flight| flight.given_up.is_some() || matches!(flight.end, End::Dropped(_))) {
-        items.push((line("read", " given-up"), "given up: nobody waits for it"));
-    }
-    if any(&|flight| flight.end == End::InFlight) {
-        items.push((Box::new(onward), "in flight when the session ends"));
-    }
-    if any(&|flight| flight.crossed.is_some()) {
-        items.push((
-            Box::new(sign_of_crossing),
-            "crossed by a write: its answer is not remembered",
-        ));
-    }
+    let mut items = lines(&flights(story, layout));
     items.extend(bars(story, layout));
-    let mut signs: Vec<Sign> = shown(story, layout)
-        .iter()
-        .map(|event| sign(story, event))
-        .collect();
-    signs.sort_unstable();
-    signs.dedup();
-    for sign in signs {
+    let signs = shown(story, layout).iter().map(|event| sign(story, event));
+    let signs: BTreeSet<Sign> = signs.collect();
+    items.extend(signs.into_iter().map(|sign| {
         let sample: Sample = Box::new(move |svg, x, y| sign.draw(svg, (x, y), "n"));
-        items.push((sample, sign.words()));
-    }
+        item(sign.name(), sign.words(), sample)
+    }));
     items
+}
+
+/// The lines of these requests.
+fn lines(flights: &[&Flight]) -> Vec<Item> {
+    let all = [
+        (
+            item(
+                "guard",
+                "request for a guard, to the store",
+                line("guard", ""),
+            ),
+            flights
+                .iter()
+                .any(|flight| matches!(flight.purpose, Purpose::Guard { .. })),
+        ),
+        (
+            item("read", "read, to the store", line("read", "")),
+            flights
+                .iter()
+                .any(|flight| matches!(flight.purpose, Purpose::Read { .. })),
+        ),
+        (
+            item("write", "write or load, to the store", line("write", "")),
+            flights
+                .iter()
+                .any(|flight| matches!(flight.purpose, Purpose::Write { .. })),
+        ),
+        (
+            item("answer", "answer, from the store", line("answer", "")),
+            flights
+                .iter()
+                .any(|flight| flight.arrived.is_some() && flight.end != End::Gone),
+        ),
+        (
+            item(
+                "given-up",
+                "given up: nobody waits for it",
+                line("read", " given-up"),
+            ),
+            flights
+                .iter()
+                .any(|flight| flight.given_up.is_some() || matches!(flight.end, End::Dropped(_))),
+        ),
+        (
+            item(
+                "in-flight",
+                "in flight when the session ends",
+                Box::new(onward),
+            ),
+            flights.iter().any(|flight| flight.end == End::InFlight),
+        ),
+        (
+            item(
+                "crossed",
+                "crossed by a write: not to be remembered",
+                Box::new(sign_of_crossing),
+            ),
+            flights.iter().any(|flight| flight.crossed.is_some()),
+        ),
+    ];
+    let occurring = all.into_iter().filter(|(_, occurs)| *occurs);
+    occurring.map(|(item, _)| item).collect()
 }
 
 /// The requests that are in flight at some step shown.
@@ -143,46 +193,42 @@ fn flights<'a>(story: &'a Story, layout: &Layout) -> Vec<&'a Flight> {
         .collect()
 }
 
-/// The bars that occur. Those of a guard are shown with the pattern of the first player that has one.
-fn bars<'a>(story: &Story, layout: &Layout) -> Vec<(Sample<'a>, &'static str)> {
-    let mut items: Vec<(Sample, &'static str)> = Vec::new();
-    let owner = layout
-        .columns
-        .iter()
-        .find(|column| !column.strip.lanes.is_empty());
-    if let Some(column) = owner {
-        let class = format!("owned {}", style::stroke(column.sender));
-        items.push((
-            bar(class),
-            "beside a player: owns these entries, no live guard",
-        ));
-    }
+/// The bars that occur. Those of a guard are shown with the pattern of the first player that owns something.
+fn bars(story: &Story, layout: &Layout) -> Vec<Item> {
+    let mut items = Vec::new();
+    let mut columns = layout.columns.iter();
+    let owner = columns.find(|column| !column.strip.lanes.is_empty());
     let guards = story.guards.blocks(&layout.guards.lanes);
     let has = |test: fn(u32) -> bool| guards.iter().any(|block| test(block.value));
-    if has(|guard| guard != OPEN_GUARD && guard != BARRED) {
-        if let Some(Sender::Player(player)) = owner.map(|column| column.sender) {
-            let class = style::pattern(player);
-            items.push((bar(class), "player: with a live guard; store: its guard"));
+    if let Some(column) = owner {
+        let class = format!("owned {}", style::stroke(column.sender));
+        let words = "beside a player: owned, without a live guard";
+        items.push(item("owned", words, bar(class)));
+        if let Sender::Player(player) = column.sender {
+            if has(|guard| guard != OPEN_GUARD && guard != BARRED) {
+                let words = "with a live guard; at the store: its guard";
+                items.push(item("guarded", words, bar(style::pattern(player))));
+            }
         }
     }
-    items.push((
-        bar("open".to_string()),
-        "beside the store: open, no guard yet",
-    ));
+    let words = "beside the store: open, no guard yet";
+    items.push(item("open", words, bar("open".to_string())));
     if has(|guard| guard == BARRED) {
-        items.push((
-            bar("barred".to_string()),
-            "beside the store: barred by a restart",
-        ));
+        let words = "beside the store: barred by a restart";
+        items.push(item("barred", words, bar("barred".to_string())));
     }
     if !story.boundaries.is_empty() {
-        items.push((Box::new(boundary), "boundary: a tablet begins"));
+        items.push(item(
+            "boundary",
+            "boundary: a tablet begins",
+            Box::new(boundary),
+        ));
     }
     items
 }
 
 /// A short line to the right.
-fn line<'a>(weight: &'static str, dashes: &'static str) -> Sample<'a> {
+fn line(weight: &'static str, dashes: &'static str) -> Sample {
     Box::new(move |svg, x, y| {
         let line = format!("M{} {} h28", N(x - 14.0), N(y));
         let class = format!("leg {}", style::PLAIN_STROKE);
@@ -219,7 +265,7 @@ fn onward(svg: &mut Svg, x: f64, y: f64) {
 }
 
 /// A piece of a bar.
-fn bar<'a>(class: String) -> Sample<'a> {
+fn bar(class: String) -> Sample {
     Box::new(move |svg, x, y| {
         svg.leaf(
             "rect",

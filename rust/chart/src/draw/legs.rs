@@ -4,7 +4,7 @@ use crate::flight::{End, Flight, Purpose};
 use crate::layout::{Layout, ROW};
 use crate::story::Story;
 use crate::style;
-use crate::svg::{Svg, N};
+use crate::svg::{Attributes, Svg, N};
 use crate::words;
 
 /// How far a request that is lost comes, as a part of its way.
@@ -21,7 +21,7 @@ type Point = (f64, f64);
 
 /// One of the two legs of a request's way.
 struct Leg {
-    name: &'static str,
+    course: Course,
     from: Point,
     to: Point,
     /// The steps at its ends; none at the end of a leg that is in flight.
@@ -29,6 +29,23 @@ struct Leg {
     /// The step from which on it is given up.
     given_up: Option<usize>,
     head: Head,
+}
+
+/// Where a leg leads.
+#[derive(Clone, Copy, PartialEq, Eq)]
+enum Course {
+    ToStore,
+    ToSender,
+}
+
+impl Course {
+    /// Its name in the file.
+    fn name(self) -> &'static str {
+        match self {
+            Course::ToStore => "request",
+            Course::ToSender => "answer",
+        }
+    }
 }
 
 /// How a leg ends.
@@ -111,7 +128,7 @@ fn legs(story: &Story, layout: &Layout, flight: &Flight, ends: &Ends) -> Vec<Leg
     let at = |x: f64, step: usize| (x, layout.unclipped(step));
     let asked = flight.asked;
     let forth = |to: Point, step: Option<usize>, head: Head| Leg {
-        name: "request",
+        course: Course::ToStore,
         from: at(sender, asked),
         to,
         steps: (asked, step),
@@ -129,7 +146,7 @@ fn legs(story: &Story, layout: &Layout, flight: &Flight, ends: &Ends) -> Vec<Leg
     };
     let mut legs = vec![forth(at(store, arrived), Some(arrived), Head::Full)];
     let back = |to: Point, step: Option<usize>, given_up: Option<usize>, head: Head| Leg {
-        name: "answer",
+        course: Course::ToSender,
         from: at(store, arrived),
         to,
         steps: (arrived, step),
@@ -177,15 +194,12 @@ fn draw_leg(svg: &mut Svg, layout: &Layout, flight: &Flight, leg: &Leg) {
     let Some((from, to, begins, ends)) = clip(layout, leg) else {
         return;
     };
-    let end = leg
-        .steps
-        .1
-        .map_or("end".to_string(), |step| step.to_string());
+    let end = words::step_or_end(leg.steps.1);
     let class = format!("leg {}", style::stroke(flight.sender));
-    let attributes: &[(&str, &dyn std::fmt::Display)] = &[
+    let attributes: Attributes = &[
         ("class", &class),
         ("data-serial", &flight.serial),
-        ("data-leg", &leg.name),
+        ("data-leg", &leg.course.name()),
         ("data-from", &leg.steps.0),
         ("data-to", &end),
     ];
@@ -213,8 +227,8 @@ fn line(svg: &mut Svg, flight: &Flight, leg: &Leg, from: Point, to: Point, given
     if from == to {
         return;
     }
-    let weight = match (leg.name, flight.purpose) {
-        ("answer", _) => "answer",
+    let weight = match (leg.course, flight.purpose) {
+        (Course::ToSender, _) => "answer",
         (_, Purpose::Guard { .. }) => "guard",
         (_, Purpose::Read { .. }) => "read",
         (_, Purpose::Write { .. }) => "write",

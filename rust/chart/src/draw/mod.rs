@@ -11,7 +11,8 @@ mod stop;
 use crate::layout::{Layout, Rows};
 use crate::story::Story;
 use crate::style;
-use crate::svg::{Svg, N};
+use crate::svg::{Attributes, Svg, N};
+use crate::words;
 
 /// The chart of the story's rows from one to another, as the text of an SVG file.
 pub fn draw(story: &Story, rows: Rows) -> String {
@@ -23,7 +24,7 @@ pub fn draw(story: &Story, rows: Rows) -> String {
     let (width, height) = (layout.width.ceil(), height.ceil());
 
     let mut svg = Svg::default();
-    let attributes: &[(&str, &dyn std::fmt::Display)] = &[
+    let attributes: Attributes = &[
         ("xmlns", &"http://www.w3.org/2000/svg"),
         ("xml:lang", &"en"),
         ("width", &N(width)),
@@ -34,11 +35,11 @@ pub fn draw(story: &Story, rows: Rows) -> String {
         ("aria-describedby", &"description"),
     ];
     svg.group("svg", attributes, |svg| {
-        svg.text("title", &[("id", &"title")], &heads::title(story));
+        svg.text("title", &[("id", &"title")], &words::title(story));
         let description = heads::description(story, &layout);
         svg.text("desc", &[("id", &"description")], &description);
         style::define(svg, &story.senders());
-        let paper: &[(&str, &dyn std::fmt::Display)] = &[
+        let paper: Attributes = &[
             ("width", &N(width)),
             ("height", &N(height)),
             ("fill", &"#ffffff"),

@@ -1,7 +1,5 @@
 //! Rows: the ordinal of each step, its sign where it happened, and what it says.
 
-use std::ops::Range;
-
 use famdrize::Reply;
 
 use super::legs::{lost_at, serial};
@@ -9,14 +7,14 @@ use super::signs::Sign;
 use crate::flight::{Outcome, Purpose, Sender};
 use crate::layout::{Layout, MARGIN, ORDINALS};
 use crate::story::{At, Deed, Event, Memory, Story};
-use crate::svg::{Svg, N};
+use crate::svg::{Attributes, Svg, N};
 use crate::words;
 
 /// Draws the rows that are shown.
 pub fn draw(svg: &mut Svg, story: &Story, layout: &Layout) {
     svg.group("g", &[("role", &"list")], |svg| {
         for event in shown(story, layout) {
-            let attributes: &[(&str, &dyn std::fmt::Display)] = &[
+            let attributes: Attributes = &[
                 ("class", &"row"),
                 ("role", &"listitem"),
                 ("data-step", &event.ordinal),
@@ -42,7 +40,7 @@ pub fn sign(story: &Story, event: &Event) -> Sign {
         Deed::Arrived(serial) => match story.flight(serial).arrived {
             Some((_, Outcome::GuardSet)) => Sign::GuardDone,
             Some((_, Outcome::GuardNotSet)) => Sign::GuardNotDone,
-            Some((_, Outcome::Committed)) => Sign::Committed,
+            Some((_, Outcome::Committed { .. })) => Sign::Committed,
             Some((_, Outcome::TurnedBack { .. })) => Sign::TurnedBack,
             Some((_, Outcome::Found { .. })) | None => Sign::Found,
         },
@@ -88,7 +86,7 @@ fn row(svg: &mut Svg, story: &Story, layout: &Layout, event: &Event) {
         &words::reply(story, event),
     );
     let sign = sign(story, event);
-    let attributes: &[(&str, &dyn std::fmt::Display)] = &[
+    let attributes: Attributes = &[
         ("class", &"sign-of"),
         ("aria-hidden", &"true"),
         ("data-sign", &sign.name()),
@@ -139,13 +137,12 @@ fn beside(svg: &mut Svg, layout: &Layout, event: &Event) {
     }
 }
 
-/// The rows shown that have something in the store's lanes, and which lanes those are.
-pub fn met(story: &Story, layout: &Layout) -> Vec<(f64, Range<usize>)> {
-    let strip = &layout.guards;
+/// The rows shown that have something in the store's lanes, and the last of those lanes: from the first one on, over which the line to it runs.
+pub fn met(story: &Story, layout: &Layout) -> Vec<(f64, usize)> {
     let met = shown(story, layout).iter().filter_map(|event| {
-        let (first, last) = entries(story, event)?;
-        let lanes = strip.lane_of(first.into())?..strip.lane_of(last.into())? + 1;
-        Some((layout.unclipped(event.ordinal), lanes))
+        let (_, last) = entries(story, event)?;
+        let lane = layout.guards.lane_of(last.into())?;
+        Some((layout.unclipped(event.ordinal), lane))
     });
     met.collect()
 }
@@ -178,7 +175,7 @@ fn in_strip(svg: &mut Svg, story: &Story, layout: &Layout, event: &Event, sign: 
         let (left, right, y, above) = (N(left), N(right), N(y), N(y - 5.0));
         let line = format!("M{left} {y} H{right} M{left} {above} v10 M{right} {above} v10");
         svg.leaf("path", &[("class", &"under"), ("d", &line)]);
-        let attributes: &[(&str, &dyn std::fmt::Display)] = &[
+        let attributes: Attributes = &[
             ("class", &"cross reach"),
             ("data-entries", &format!("{first}-{last}")),
             ("d", &line),
@@ -189,8 +186,7 @@ fn in_strip(svg: &mut Svg, story: &Story, layout: &Layout, event: &Event, sign: 
     let x = strip.edge(lane(first)) + strip.lane / 2.0;
     let line = format!("M{} {} H{}", N(layout.store), N(y), N(x));
     svg.leaf("path", &[("class", &"dots"), ("d", &line)]);
-    let attributes: &[(&str, &dyn std::fmt::Display)] =
-        &[("class", &"met"), ("data-entry", &first)];
+    let attributes: Attributes = &[("class", &"met"), ("data-entry", &first)];
     svg.group("g", attributes, |svg| {
         let plate = format!("M{} {} h14 v14 h-14 Z", N(x - 7.0), N(y - 7.0));
         svg.leaf("path", &[("class", &"plate"), ("d", &plate)]);

@@ -64,7 +64,7 @@ impl Sign {
             Sign::Remembered => "remembered",
             Sign::NotRemembered => "not-remembered",
             Sign::FromMemory => "from-memory",
-            Sign::GivenUp => "given-up",
+            Sign::GivenUp => "gives-up",
             Sign::Lost => "lost",
             Sign::Assigned => "assigned",
             Sign::Released => "released",

@@ -1,103 +1,62 @@
 //! Below the rows: why the run stopped, and the bytes that it did not read.
 
-use famdrize::Why;
-
-use crate::layout::{Layout, ORDINALS};
+use crate::layout::{Layout, EDGE, LEFT};
 use crate::story::Story;
-use crate::svg::{Svg, N};
+use crate::svg::{Attributes, Svg, N};
+use crate::words;
 
-/// How many of the bytes that were not read are shown.
-const BYTES: usize = 16;
-/// The height of the bar that stands for damage.
+/// The height of the bar that stands for damage, and that of a line of text.
 const DAMAGE: f64 = 12.0;
+const LINE: f64 = 17.0;
 
 /// Draws it, and tells the height after it.
 pub fn draw(svg: &mut Svg, story: &Story, layout: &Layout) -> f64 {
-    let (left, right) = (ORDINALS - 20.0, layout.guards.right());
+    let lines = words::below(story, &layout.rows);
     let bottom = layout.bottom();
-    let last = *layout.rows.end();
-    if last < story.events.len() {
-        let line = format!(
-            "M{} {b} H{}",
-            N(left),
-            N(layout.width - 12.0),
-            b = N(bottom)
-        );
-        svg.leaf("path", &[("class", &"dots"), ("d", &line)]);
-        let told = format!("Record {} comes next.", last + 1);
-        svg.text(
-            "text",
-            &[
-                ("class", &"step"),
-                ("x", &N(left)),
-                ("y", &N(bottom + 18.0)),
-            ],
-            &told,
-        );
-        return bottom + 24.0;
+    if *layout.rows.end() < story.events.len() {
+        across(svg, "dots", bottom, layout.width - EDGE);
+        return text(svg, bottom, &lines);
     }
-    let report = story.report;
-    let numbers = format!(
-        "end {} {} {}",
-        report.why.number(),
-        report.records,
-        report.place
-    );
-    let damaged = matches!(report.why, Why::Refused(_));
-    let class = if damaged {
-        "end-of-session damaged"
-    } else {
-        "end-of-session"
+    let class = match story.is_damaged() {
+        true => "end-of-session damaged",
+        false => "end-of-session",
     };
-    let attributes: &[(&str, &dyn std::fmt::Display)] =
-        &[("class", &class), ("data-end", &numbers)];
-    let mut y = bottom;
+    let end = words::end(story);
+    let attributes: Attributes = &[("class", &class), ("data-end", &end)];
+    let mut after = bottom;
     svg.group("g", attributes, |svg| {
-        if damaged {
-            let bar: &[(&str, &dyn std::fmt::Display)] = &[
+        let right = layout.guards.right();
+        if story.is_damaged() {
+            let bar: Attributes = &[
                 ("class", &"damage"),
-                ("x", &N(left)),
+                ("x", &N(LEFT)),
                 ("y", &N(bottom)),
-                ("width", &N(right - left)),
+                ("width", &N(right - LEFT)),
                 ("height", &N(DAMAGE)),
             ];
             svg.leaf("rect", bar);
-            y += DAMAGE;
+            after += DAMAGE;
         } else {
-            let line = format!("M{} {} H{}", N(left), N(bottom), N(right));
-            svg.leaf("path", &[("class", &"stop"), ("d", &line)]);
+            across(svg, "stop", bottom, right);
         }
-        let mut text = |text: &str| {
-            y += 17.0;
-            svg.text(
-                "text",
-                &[("class", &"step"), ("x", &N(left)), ("y", &N(y))],
-                text,
-            );
-        };
-        text(&format!("{numbers} · {}", report.why));
-        if damaged {
-            text(&bytes(story));
-        }
+        after = text(svg, after, &lines);
     });
-    y + 6.0
+    after
 }
 
-/// The bytes that were not read, or the first of them.
-fn bytes(story: &Story) -> String {
-    let place = story.report.place;
-    if story.rest.is_empty() {
-        return format!("No byte stands at place {place}.");
+/// A line across the picture.
+fn across(svg: &mut Svg, class: &str, y: f64, right: f64) {
+    let line = format!("M{} {} H{}", N(LEFT), N(y), N(right));
+    svg.leaf("path", &[("class", &class), ("d", &line)]);
+}
+
+/// Lines of text from a height on; the height after them.
+fn text(svg: &mut Svg, top: f64, lines: &[String]) -> f64 {
+    let mut y = top;
+    for line in lines {
+        y += LINE;
+        let attributes: Attributes = &[("class", &"step"), ("x", &N(LEFT)), ("y", &N(y))];
+        svg.text("text", attributes, line);
     }
-    let shown: Vec<String> = story
-        .rest
-        .iter()
-        .take(BYTES)
-        .map(|byte| format!("{byte:02X}"))
-        .collect();
-    let more = match story.rest.len().saturating_sub(BYTES) {
-        0 => String::new(),
-        more => format!(" and {more} more"),
-    };
-    format!("Not read, from byte {place} on: {}{more}", shown.join(" "))
+    y + 6.0
 }

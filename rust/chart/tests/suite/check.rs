@@ -101,18 +101,31 @@ impl Shown<'_> {
             self.row(row)
                 .map_err(|told| format!("row {}: {told}", row.ordinal))?;
         }
+        self.shapes()
+    }
+
+    /// Each sign has one shape, which is that of the legend, and no other sign has it.
+    fn shapes(&self) -> Result<(), String> {
+        let mut shapes: BTreeMap<&str, &str> = BTreeMap::new();
+        for row in &self.picture.rows {
+            let known = shapes.insert(&row.shape, &row.sign);
+            expect(
+                "one shape for two signs",
+                known.map_or(true, |known| known == row.sign),
+            )?;
+            let explained = self.picture.legend.get(&row.sign);
+            expect("a sign is not explained", explained == Some(&row.shape))?;
+        }
         Ok(())
     }
 
     fn row(&self, row: &Row) -> Result<(), String> {
         let event = &self.expected.events[row.ordinal - 1];
         expect("at another height", near(row.y, self.y(row.ordinal)))?;
-        let numbers = format!(
-            "{} {} {} · ",
-            event.reply.code, event.reply.a, event.reply.b
-        );
-        expect("another reply", row.reply.starts_with(&numbers))?;
-        expect("no words", row.reply.len() > numbers.len() + 3)?;
+        if row.reply != event.said {
+            let told = format!("another reply: {}, and not {}", row.reply, event.said);
+            return Err(told);
+        }
         let record =
             famdrize::decode(&self.session[event.byte..]).map_err(|refusal| refusal.to_string())?;
         let words = famdrize::Step::try_from(record.fields).map(|step| step.to_string());
@@ -451,6 +464,7 @@ impl Shown<'_> {
                 .collect();
             let more = match rest.len().saturating_sub(16) {
                 0 => String::new(),
+                _ if self.session.len() > 16_384 => " and more".to_string(),
                 more => format!(" and {more} more"),
             };
             let told = match rest {

@@ -1,5 +1,6 @@
 //! Pictures of all sorts of sessions.
 
+use std::collections::BTreeSet;
 use std::fs;
 use std::path::{Path, PathBuf};
 
@@ -90,13 +91,44 @@ fn every_session_of_the_repository() {
     }
 }
 
+/// All signs, but that of a kind of step that has none.
+const SIGNS: [&str; 18] = [
+    "asked",
+    "assigned",
+    "committed",
+    "found",
+    "from-memory",
+    "gives-up",
+    "guard-done",
+    "guard-not-done",
+    "lost",
+    "merged",
+    "not-remembered",
+    "reached",
+    "refused",
+    "released",
+    "remembered",
+    "restarted",
+    "split",
+    "turned-back",
+];
+
 #[test]
-fn random_sessions() {
+fn random_sessions_in_which_every_sign_occurs() {
     let mut rng = Prng::new(1);
+    let mut signs = BTreeSet::new();
+    let mut places = BTreeSet::new();
     for at in 0..400 {
         let session = random(&mut rng);
         drawn(&format!("random {at}"), &session);
+        for event in Expected::of(&session).events {
+            signs.insert(event.sign);
+            places.insert(event.place);
+        }
     }
+    assert!(signs.into_iter().eq(SIGNS));
+    // eight players, the loader, the store, the way, the margin
+    assert_eq!(places.len(), 12);
 }
 
 #[test]
@@ -163,6 +195,7 @@ fn the_longest_sessions() {
     long.push(0);
     let text = drawn("too long", &long);
     assert!(!text.contains("class=\"row\""));
+    assert!(text.contains("more than 16384 bytes"));
 }
 
 #[test]

@@ -10,6 +10,8 @@ use model::rules;
 use model::run::{AT_END, REPLY_WORDS};
 use model::state::{Operation, State};
 
+use super::said::{memory, request, said};
+
 /// What a session's picture should show.
 pub struct Expected {
     pub events: Vec<Event>,
@@ -73,6 +75,8 @@ impl Sight {
 pub struct Event {
     pub step: Step,
     pub reply: Reply,
+    /// What its row says of the reply.
+    pub said: String,
     pub sign: &'static str,
     pub place: String,
     /// The place of its record in the session.
@@ -150,12 +154,14 @@ impl Expected {
             self.note(ordinal, step, reply);
             self.note_crossed(ordinal, after);
         }
+        let said = said(step, reply, &before, after);
         let sign = sign(step, reply, &before, after);
         let place = self.place(step, sign);
         self.sights.push(Sight::of(after));
         self.events.push(Event {
             step,
             reply,
+            said,
             sign,
             place,
             byte,
@@ -226,13 +232,12 @@ impl Expected {
     /// The lifeline, or other place, at which a step's sign stands.
     fn place(&self, step: Step, sign: &str) -> String {
         let fields = Fields::from(step);
-        let valid = step.is_in_range();
         let sender = |serial: u32| match self.requests.get(&serial) {
             Some(request) => request.sender.clone(),
             None => "margin".to_string(),
         };
         match step {
-            _ if !valid => "margin".to_string(),
+            _ if !is_in_range(step) => "margin".to_string(),
             Step::Release { .. } => "margin".to_string(),
             Step::Respond { serial } | Step::Abandon { serial } => sender(serial),
             Step::Lose { .. } if sign == "lost" => "way".to_string(),
@@ -253,23 +258,17 @@ impl Expected {
 }
 
 /// Whether a step's player and range are such: one with another player or range stands beside all lifelines.
-trait InRange {
-    fn is_in_range(self) -> bool;
-}
-
-impl InRange for Step {
-    fn is_in_range(self) -> bool {
-        let range = |range: calls::Range| u16::from(range.low) < range.high && range.high <= 256;
-        match self {
-            Step::Assign { player, range: r } | Step::RequestGuard { player, range: r } => {
-                player < 8 && range(r)
-            }
-            Step::Release { range: r } => range(r),
-            Step::Read { player, .. }
-            | Step::Write { player, .. }
-            | Step::RestartPlayer { player } => player < 8,
-            _ => true,
+fn is_in_range(step: Step) -> bool {
+    let range = |range: calls::Range| u16::from(range.low) < range.high && range.high <= 256;
+    match step {
+        Step::Assign { player, range: r } | Step::RequestGuard { player, range: r } => {
+            player < 8 && range(r)
         }
+        Step::Release { range: r } => range(r),
+        Step::Read { player, .. } | Step::Write { player, .. } | Step::RestartPlayer { player } => {
+            player < 8
+        }
+        _ => true,
     }
 }
 
@@ -287,7 +286,7 @@ fn sign(step: Step, reply: Reply, before: &State, after: &State) -> &'static str
         }
         Step::Deliver { serial } => arrival(serial, before, after),
         Step::Respond { serial } => answer(serial, reply, before, after),
-        Step::Abandon { .. } => "given-up",
+        Step::Abandon { .. } => "gives-up",
         Step::Lose { .. } => "lost",
         Step::Split { .. } => "split",
         Step::Merge { .. } => "merged",
@@ -296,18 +295,9 @@ fn sign(step: Step, reply: Reply, before: &State, after: &State) -> &'static str
     }
 }
 
-fn operation(state: &State, serial: u32) -> (u8, Operation) {
-    let found = state
-        .requests
-        .iter()
-        .find(|request| request.serial == serial);
-    let found = found.expect("a request in flight");
-    (found.player, found.operation)
-}
-
 /// "if the range lies in one tablet the guard is set over it"; "commits if the carried guard equals the entry's guard".
 fn arrival(serial: u32, before: &State, after: &State) -> &'static str {
-    match operation(before, serial).1 {
+    match request(before, serial).operation {
         Operation::Guard { range, .. } if after.store.guards[usize::from(range.low)] == serial => {
             "guard-done"
         }
@@ -320,19 +310,15 @@ fn arrival(serial: u32, before: &State, after: &State) -> &'static str {
     }
 }
 
-/// What came of an answer: remembered, where a read tried now comes from memory with the answer's numbers, and did not before.
+/// What came of an answer.
 fn answer(serial: u32, reply: Reply, before: &State, after: &State) -> &'static str {
-    let (player, operation) = operation(before, serial);
-    let entry = match operation {
-        Operation::Guard { .. } if reply.code == 6 => return "guard-done",
-        Operation::Guard { .. } => return "guard-not-done",
-        Operation::Write { .. } if reply.code == 5 => return "turned-back",
-        Operation::Read { entry, .. } | Operation::Write { entry, .. } => entry,
-    };
-    let told = Reply::new(2, reply.a, reply.b);
-    let tried = |state: &State| rules::step(&mut state.clone(), Step::Read { player, entry });
-    match player != LOADER && tried(after) == told && tried(before) != told {
-        true => "remembered",
-        false => "not-remembered",
+    match reply.code {
+        6 => "guard-done",
+        7 | 8 => "guard-not-done",
+        5 => "turned-back",
+        _ => match memory(request(before, serial), reply, before, after) {
+            Some("remembered") => "remembered",
+            _ => "not-remembered",
+        },
     }
 }

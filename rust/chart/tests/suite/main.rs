@@ -4,5 +4,6 @@ mod check;
 mod drawn;
 mod expected;
 mod picture;
+mod said;
 mod wrong;
 mod xml;

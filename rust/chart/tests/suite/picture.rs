@@ -30,6 +30,8 @@ pub struct Picture {
     pub strips: BTreeMap<String, Strip>,
     /// The numbers of the end, and what is said there.
     pub end: Option<(String, Vec<String>)>,
+    /// What the legend shows, by its names: the shape.
+    pub legend: BTreeMap<String, String>,
 }
 
 /// A row.
@@ -40,6 +42,8 @@ pub struct Row {
     pub step: String,
     pub reply: String,
     pub sign: String,
+    /// How the sign is drawn, wherever it stands.
+    pub shape: String,
     /// The name of the place at which the sign stands.
     pub place: String,
     pub point: Point,
@@ -147,6 +151,13 @@ pub fn read(root: &Element) -> Result<Picture, String> {
         Some(element) => Some(end(element)?),
         None => None,
     };
+    let mut legend = BTreeMap::new();
+    for sample in with_class(&all, "sample") {
+        let name = attribute(sample, "data-is")?.to_string();
+        let twice = legend.insert(name, shape(sample.children())?);
+        expect("two lines of the legend have one name", twice.is_none())?;
+    }
+    explained(&all, &legend)?;
     // in the legend the same signs stand for what they mean
     let crossed: Result<Vec<Point>, String> = with_class(&all, "flight")
         .into_iter()
@@ -163,6 +174,7 @@ pub fn read(root: &Element) -> Result<Picture, String> {
         crossed: crossed?,
         strips,
         end,
+        legend,
     })
 }
 
@@ -232,6 +244,24 @@ fn within(root: &Element, all: &[&Element]) -> Result<(), String> {
         };
         let inside = (0.0..=width).contains(&point.0) && (0.0..=height).contains(&point.1);
         expect("something beside the picture", inside)?;
+        if element.name == "text"
+            && !["end", "middle", "ordinal", "number"]
+                .iter()
+                .any(|class| element.has_class(class))
+        {
+            // about the width of the letters of a common font
+            let size = match element.get("class").unwrap_or("") {
+                "title" => 17.0,
+                "step" => 12.0,
+                _ => 11.0,
+            };
+            let length = element.text().chars().count() as f64 * size * 0.55;
+            let anchored = element.get("text-anchor") == Some("end");
+            expect(
+                "text beyond the picture",
+                anchored || point.0 + length <= width,
+            )?;
+        }
     }
     Ok(())
 }
@@ -294,7 +324,8 @@ fn row(element: &Element) -> Result<Row, String> {
             .any(|class| child.has_class(class));
         !beside && child.name != "text"
     });
-    let points: Result<Vec<Point>, String> = shapes.map(anchor).collect();
+    let shapes: Vec<&Element> = shapes.collect();
+    let points: Result<Vec<Point>, String> = shapes.iter().map(|shape| anchor(shape)).collect();
     let points = points?;
     let point = *points.first().ok_or("a row without a sign")?;
     let together = points
@@ -316,6 +347,7 @@ fn row(element: &Element) -> Result<Row, String> {
         step: texts("step")?.text(),
         reply: texts("reply")?.text(),
         sign: attribute(sign, "data-sign")?.to_string(),
+        shape: shape(shapes.into_iter())?,
         place: attribute(sign, "data-at")?.to_string(),
         point,
         number: told("number"),
@@ -406,6 +438,55 @@ fn end(element: &Element) -> Result<(String, Vec<String>), String> {
         element.has_class("damaged") == (damage == 1),
     )?;
     Ok((attribute(element, "data-end")?.to_string(), texts))
+}
+
+/// How shapes are drawn, wherever they stand.
+fn shape<'a>(shapes: impl Iterator<Item = &'a Element>) -> Result<String, String> {
+    let mut text = String::new();
+    for shape in shapes {
+        let class = shape.get("class").unwrap_or("");
+        let form = match shape.name.as_str() {
+            "circle" => attribute(shape, "r")?.to_string(),
+            // what comes after the first point
+            "path" => attribute(shape, "d")?
+                .splitn(3, ' ')
+                .nth(2)
+                .unwrap_or("")
+                .to_string(),
+            _ => continue,
+        };
+        text += &format!("{} {class} {form}; ", shape.name);
+    }
+    Ok(text)
+}
+
+/// Tests that the legend tells what each sort of line and bar means that is drawn.
+fn explained(all: &[&Element], legend: &BTreeMap<String, String>) -> Result<(), String> {
+    let drawn = ["strip", "flight"]
+        .iter()
+        .flat_map(|class| with_class(all, class));
+    let drawn: Vec<&Element> = drawn.flat_map(|group| group.all()).collect();
+    for class in [
+        "guard", "read", "write", "answer", "given-up", "crossed", "owned", "open", "barred",
+        "boundary",
+    ] {
+        let occurs = drawn.iter().any(|element| element.has_class(class));
+        expect(
+            "a line or bar is not explained",
+            !occurs || legend.contains_key(class),
+        )?;
+    }
+    let guarded = drawn.iter().any(|element| {
+        let pattern = element.has_class("bar")
+            && !["owned", "open", "barred"]
+                .iter()
+                .any(|class| element.has_class(class));
+        pattern
+    });
+    expect(
+        "a bar is not explained",
+        !guarded || legend.contains_key("guarded"),
+    )
 }
 
 /// The point around which a shape is drawn.

@@ -137,6 +137,20 @@ const CHANGES: &[(&str, Change)] = &[
     ("a row has another reply", |root| {
         say(row(root, 7), "reply", "3 0 1 · read from the store")
     }),
+    ("a row says another guard", |root| {
+        say(
+            row(root, 16),
+            "reply",
+            "0 0 0 · turned back: carries guard 2, entry 45 has guard 2",
+        );
+    }),
+    ("a row says that it is not remembered", |root| {
+        say(
+            row(root, 7),
+            "reply",
+            "3 0 0 · read from the store: version 0, value 0; not remembered",
+        );
+    }),
     ("a row has no words", |root| {
         say(row(root, 7), "reply", "3 0 0 · ")
     }),
@@ -146,6 +160,18 @@ const CHANGES: &[(&str, Change)] = &[
     ("a row has no sign", |root| sign(root, 7).inside.clear()),
     ("a row has another sign", |root| {
         sign(root, 7).set("data-sign", "not-remembered")
+    }),
+    ("a sign is drawn as another", |root| {
+        of(sign(root, 8), "sign", "", "").set("r", "3.8");
+    }),
+    ("a sign is not explained", |root| {
+        remove(root, "sample", "data-is", "from-memory");
+    }),
+    ("a line is not explained", |root| {
+        remove(root, "sample", "data-is", "given-up")
+    }),
+    ("a bar is not explained", |root| {
+        remove(root, "sample", "data-is", "guarded")
     }),
     ("a sign stands elsewhere", |root| {
         shift(of(sign(root, 8), "sign", "", ""), "cx", 84.0)
