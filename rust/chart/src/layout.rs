@@ -21,10 +21,10 @@ pub const MARGIN: f64 = 60.0;
 /// The left edge of the first strip.
 const STRIPS: f64 = 80.0;
 /// From a strip to its lifeline, with room for a serial.
-pub const BESIDE: f64 = 30.0;
+pub const BESIDE: f64 = 24.0;
 /// The least from a lifeline to the next strip, and to the next lifeline.
-const NEXT_STRIP: f64 = 24.0;
-const NEXT_LIFELINE: f64 = 84.0;
+const NEXT_STRIP: f64 = 40.0;
+const NEXT_LIFELINE: f64 = 90.0;
 /// From the last lifeline of a sender to that of the store.
 const WAY: f64 = 190.0;
 /// From the store's strip to the rows' text.
@@ -71,6 +71,8 @@ pub struct Strip {
 impl Strip {
     fn new(left: f64, lanes: Vec<Entries>) -> Strip {
         let lane = (STRIP_WIDTH / lanes.len().max(1) as f64).clamp(NARROWEST_LANE, WIDEST_LANE);
+        // with one digit after the point, as all places have
+        let lane = (lane * 10.0).floor() / 10.0;
         Strip { left, lane, lanes }
     }
 
@@ -136,10 +138,9 @@ impl Layout {
         let width = widest(story, &rows, text) + EDGE;
         let strips = columns.iter().map(|column| &column.strip).chain([&guards]);
         let labels = strips.filter(|strip| strip.is_labelled());
-        let lengths = labels.flat_map(|strip| &strip.lanes).map(|lane| {
-            let label = words::lane(lane.start, lane.end - 1);
-            text_width(&label, SMALL_SIZE)
-        });
+        let lengths = labels
+            .flat_map(|strip| &strip.lanes)
+            .map(|lane| text_width(&words::lane(lane), SMALL_SIZE));
         let top = HEADS + HEAD_HEIGHT + ABOVE_LANES + lengths.fold(0.0, f64::max) + ABOVE_ROWS;
         Layout {
             rows,
@@ -153,7 +154,7 @@ impl Layout {
     }
 
     /// The middle of a step's row, or the nearer edge of the rows for a step that is not shown.
-    pub fn y(&self, step: usize) -> f64 {
+    fn y(&self, step: usize) -> f64 {
         let (first, last) = (*self.rows.start(), *self.rows.end());
         if step < first {
             return self.top;
@@ -173,6 +174,33 @@ impl Layout {
     pub fn bottom(&self) -> f64 {
         let shown = self.rows.end() + 1 - self.rows.start();
         self.top + shown as f64 * ROW
+    }
+
+    /// The players, each with its bars.
+    pub fn players(&self) -> impl Iterator<Item = (Player, &Strip)> {
+        self.columns
+            .iter()
+            .filter_map(|column| match column.sender {
+                Sender::Player(player) => Some((player, &column.strip)),
+                Sender::Loader => None,
+            })
+    }
+
+    /// All bars, by the names of the lifelines.
+    pub fn strips(&self) -> Vec<(String, &Strip)> {
+        let players = self
+            .players()
+            .map(|(player, strip)| (player.to_string(), strip));
+        players
+            .chain([("the store".to_string(), &self.guards)])
+            .collect()
+    }
+
+    /// From where to where something stands that one step began and another, or the end, took away; none where no row shown has it.
+    pub fn span(&self, from: usize, to: Option<usize>) -> Option<(f64, f64)> {
+        let top = self.y(from);
+        let bottom = to.map_or(self.bottom(), |to| self.y(to));
+        (top < bottom).then_some((top, bottom))
     }
 
     pub fn shows(&self, step: usize) -> bool {
@@ -207,12 +235,7 @@ fn widest(story: &Story, rows: &Rows, text: f64) -> f64 {
 /// The entries that a sender ever owns, as lanes.
 fn held(story: &Story, sender: Sender) -> Vec<Entries> {
     match sender {
-        Sender::Player(player) => of_player(story, player).lanes(&[], Some(&Hold::Nothing)),
+        Sender::Player(player) => story.holds_of(player).lanes(&[], Some(&Hold::Nothing)),
         Sender::Loader => Vec::new(),
     }
-}
-
-/// What a player has of the entries.
-pub fn of_player(story: &Story, player: Player) -> &crate::strip::History<Hold> {
-    &story.holds[usize::from(player.number())]
 }

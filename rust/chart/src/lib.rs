@@ -1,18 +1,27 @@
 //! Draws a session as a sequence chart: one lifeline for each player that occurs, for the loader if it does, and for the store; time runs down,
 //! one row for each record. The chart is the text of an SVG file, made of the session's bytes alone: the same bytes give the same text.
 //!
-//! Nothing here knows the rules of the steps. [`story`] takes the session's records with the proved library, and reads off its tables what
-//! happened; [`layout`] says where things stand, and [`draw`] draws them.
+//! Nothing here knows the rules of the steps.
+//!
+//! | Module | Holds |
+//! |---|---|
+//! | `story` | what happened in a session |
+//! | `telling` | how that is found out: the records are taken with the proved library, and what each did is read off its tables |
+//! | `flight`, `holders`, `strip` | requests on their way; who owns what under which guard; values of entries as bars |
+//! | `layout`, `words`, `style` | where things stand, what is said, colours and patterns |
+//! | `draw`, `svg` | the picture, and the text of its file |
 
 #![forbid(unsafe_code)]
 
 mod draw;
 mod flight;
+mod holders;
 mod layout;
 mod story;
 mod strip;
 mod style;
 mod svg;
+mod telling;
 mod words;
 
 pub use layout::Rows;
@@ -48,11 +57,12 @@ impl Chart {
         draw::draw(&self.story, 1..=self.story.events.len())
     }
 
-    /// The picture of the records from one to another, by their ordinals; none where there is no such record. What came before them, and
-    /// comes after them, is as in the whole picture.
+    /// The picture of the records from one to another, by their ordinals, or to the last; none where the first of them is not there. What
+    /// came before them, and comes after them, is as in the whole picture.
     pub fn draw_rows(&self, rows: Rows) -> Option<String> {
-        let (first, last) = (*rows.start(), *rows.end());
-        let there = 1 <= first && first <= last && last <= self.story.events.len();
-        there.then(|| draw::draw(&self.story, rows))
+        let first = *rows.start();
+        let last = self.story.events.len().min(*rows.end());
+        let there = 1 <= first && first <= last;
+        there.then(|| draw::draw(&self.story, first..=last))
     }
 }

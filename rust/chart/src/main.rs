@@ -1,4 +1,4 @@
-//! Reads a session's bytes from standard input and prints its chart; `chart --rows 41-80` prints that of some records.
+//! Reads a session's bytes from standard input and prints its chart; `chart --rows 25-48` prints that of some records.
 //!
 //! Why the run stopped is said on standard error. The exit status is 0 at the session's end, 1 where the run or a record is refused, 2 where
 //! nothing could be read or written.
@@ -34,9 +34,12 @@ fn draw() -> Result<bool, String> {
         None => chart.draw(),
         Some(rows) => {
             let (first, last) = (*rows.start(), *rows.end());
-            let taken = chart.report().records;
-            chart.draw_rows(rows).ok_or_else(|| {
-                format!("the rows {first} to {last} are not there: the run took {taken} records")
+            let picture = chart.draw_rows(rows);
+            picture.ok_or_else(|| match chart.report().records {
+                1 => format!("rows {first} to {last} are not there: the run took 1 record"),
+                taken => {
+                    format!("rows {first} to {last} are not there: the run took {taken} records")
+                }
             })?
         }
     };

@@ -14,7 +14,7 @@ const COLOURS: [(&str, &str); 8] = [
     ("#7d6200", "#f4ecca"),
     ("#006a75", "#d5edef"),
     ("#a01a57", "#f6dbe7"),
-    ("#454545", "#e6e6e6"),
+    ("#6e4520", "#f1e6d9"),
 ];
 
 /// The lines of each player's pattern, in a square of 8.
@@ -28,6 +28,9 @@ const PATTERNS: [&str; 8] = [
     "M0 0 L8 8 M8 0 L0 8",
     "M0 6 L4 2 L8 6",
 ];
+
+/// The lines of a barred bar: as of bricks.
+const BARRED: &str = "M0 0.5 H8 M0 4.5 H8 M2 0.5 V4.5 M6 4.5 V8";
 
 /// The colour of the loader.
 const PLAIN: &str = "#333333";
@@ -46,7 +49,6 @@ text{font-family:Helvetica,Arial,'Liberation Sans','DejaVu Sans',sans-serif;font
 .small{font-size:10px}
 .serial{font-size:10px;font-weight:bold}
 .middle{text-anchor:middle}
-.end{text-anchor:end}
 .halo{paint-order:stroke;stroke:#fff;stroke-width:3px;stroke-linejoin:round}
 .band{fill:#f4f4f4}
 .lifeline{stroke:#888;stroke-width:1.2;fill:none}
@@ -77,6 +79,7 @@ text{font-family:Helvetica,Arial,'Liberation Sans','DejaVu Sans',sans-serif;font
 .number{font-size:10.5px;font-weight:bold;text-anchor:middle}
 .stop{stroke:#111;stroke-width:1.6;fill:none}
 .damage{fill:url(#damage);stroke:#111;stroke-width:1.6}
+@media print{svg{width:100%;height:auto}}
 ";
 
 /// The number of a sender's classes: 8 for the loader.
@@ -122,7 +125,7 @@ pub fn define(svg: &mut Svg, senders: &[Sender]) {
                 tile(svg, &format!("p{}", player.number()), light, dark, lines);
             }
         }
-        tile(svg, "barred", "#b4b4b4", "#ffffff", PATTERNS[6]);
+        tile(svg, "barred", "#b4b4b4", "#ffffff", BARRED);
         tile(svg, "damage", "#ffffff", "#111111", PATTERNS[0]);
     });
 }

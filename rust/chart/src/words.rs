@@ -5,6 +5,7 @@ use famdrize::{Reply, BARRED, OPEN_GUARD, SESSION_BYTES};
 use crate::flight::{End, Flight, Outcome, Purpose, Sender};
 use crate::layout::Rows;
 use crate::story::{Deed, Event, Memory, Story};
+use crate::strip::Entries;
 
 /// The most characters of a refusal's words that stand in its row; longer ones stand below the chart alone.
 const SHORT_WORDS: usize = 40;
@@ -105,7 +106,7 @@ fn notes(story: &Story, event: &Event) -> Vec<String> {
     match event.deed {
         Deed::Asked(serial) => {
             let crossed = serials(story, |flight| flight.crossed == Some(ordinal));
-            let crossed = crossed.map(|serials| format!("crossed: {serials}"));
+            let crossed = crossed.map(|serials| format!("overlapped: {serials}"));
             let carried = carried(story.flight(serial));
             carried.into_iter().chain(crossed).collect()
         }
@@ -188,7 +189,8 @@ fn has_guard(guard: u32) -> String {
 }
 
 /// Neighbouring entries as the head of a lane, or in a few characters.
-pub fn lane(first: u16, last: u16) -> String {
+pub fn lane(entries: &Entries) -> String {
+    let (first, last) = (entries.start, entries.end - 1);
     match first == last {
         true => first.to_string(),
         false => format!("{first}–{last}"),

@@ -122,7 +122,7 @@ impl fmt::Display for Step {
             Step::Deliver { serial } => write!(f, "request {serial} arrives at the store"),
             Step::Respond { serial } => write!(f, "request {serial} is answered"),
             Step::Abandon { serial } => write!(f, "request {serial} is given up"),
-            Step::Lose { serial } => write!(f, "the given-up request {serial} is lost"),
+            Step::Lose { serial } => write!(f, "request {serial} is lost"),
             Step::Split { entry } => write!(f, "a tablet is split at entry {entry}"),
             Step::Merge { entry } => write!(f, "two tablets are merged at entry {entry}"),
             Step::RestartTablet { entry } => {
@@ -432,7 +432,7 @@ pub(crate) mod tests {
             "request 11 arrives at the store",
             "request 11 is answered",
             "request 11 is given up",
-            "the given-up request 11 is lost",
+            "request 11 is lost",
             "a tablet is split at entry 45",
             "two tablets are merged at entry 45",
             "the tablet that holds entry 45 restarts",

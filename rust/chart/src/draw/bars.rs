@@ -4,7 +4,7 @@ use famdrize::{Player, BARRED, OPEN_GUARD};
 
 use super::rows;
 use crate::flight::Sender;
-use crate::layout::{of_player, text_width, Layout, Strip, ABOVE_ROWS, SMALL_SIZE};
+use crate::layout::{text_width, Layout, Strip, ABOVE_ROWS, SMALL_SIZE};
 use crate::story::{Hold, Story};
 use crate::strip::Block;
 use crate::style;
@@ -53,7 +53,7 @@ pub fn draw(svg: &mut Svg, story: &Story, layout: &Layout) {
         let strip = &column.strip;
         let at = Drawn { layout, strip, met };
         lanes(svg, layout, strip, &player.to_string(), |svg| {
-            let blocks = of_player(story, player).blocks(&column.strip.lanes);
+            let blocks = story.holds_of(player).blocks(&column.strip.lanes);
             for block in blocks {
                 let (class, label) = match block.value {
                     Hold::Nothing => continue,
@@ -87,7 +87,7 @@ pub fn draw(svg: &mut Svg, story: &Story, layout: &Layout) {
 }
 
 /// The player whose request set a guard of the store.
-fn guard_of(story: &Story, guard: u32) -> Player {
+pub fn guard_of(story: &Story, guard: u32) -> Player {
     match story.flight(guard).sender {
         Sender::Player(player) => player,
         Sender::Loader => unreachable!("the loader asks for no guard"),
@@ -119,7 +119,7 @@ fn lanes(
             for (at, lane) in strip.lanes.iter().enumerate() {
                 let x = strip.edge(at) + strip.lane / 2.0 + 3.5;
                 let y = layout.top - ABOVE_ROWS;
-                let label = words::lane(lane.start, lane.end - 1);
+                let label = words::lane(lane);
                 upright(svg, "small", x, y, &label);
             }
         }
@@ -136,11 +136,9 @@ fn upright(svg: &mut Svg, class: &str, x: f64, y: f64, text: &str) {
 /// A bar over the rows of its steps, if any of them are shown.
 fn bar<T>(svg: &mut Svg, at: &Drawn, block: &Block<T>, class: &str, label: &str) {
     let (layout, strip) = (at.layout, at.strip);
-    let top = layout.y(block.from);
-    let bottom = block.to.map_or(layout.bottom(), |to| layout.y(to));
-    if bottom <= top {
+    let Some((top, bottom)) = layout.span(block.from, block.to) else {
         return;
-    }
+    };
     let (left, right) = (strip.edge(block.lanes.start), strip.edge(block.lanes.end));
     let first = strip.lanes[block.lanes.start].start;
     let last = strip.lanes[block.lanes.end - 1].end - 1;
@@ -158,14 +156,20 @@ fn bar<T>(svg: &mut Svg, at: &Drawn, block: &Block<T>, class: &str, label: &str)
         ("height", &N(bottom - top)),
     ];
     svg.group("rect", attributes, |svg| {
-        let told = format!("entries {}: {label}", words::lane(first, last));
+        let told = format!("entries {}: {label}", words::lane(&(first..last + 1)));
         svg.text("title", &[], &told);
     });
     let taken = at.taken(block.lanes.start, top, bottom);
+    // in the middle lane, if that is wide enough: a boundary may stand between two
+    let middle = (block.lanes.start + block.lanes.end - 1) / 2;
+    let named = match strip.is_labelled() {
+        true => (strip.edge(middle), strip.edge(middle + 1)),
+        false => (left, right),
+    };
     let mut y = top;
     loop {
         let room = (y + 3.0, bottom.min(y + LABELS) - 2.0);
-        name(svg, (left, right), room, &taken, label);
+        name(svg, named, room, &taken, label);
         y += LABELS;
         if y + LABELS / 2.0 > bottom {
             return;
@@ -179,7 +183,7 @@ fn name(svg: &mut Svg, (left, right): (f64, f64), room: (f64, f64), taken: &[f64
     let short = label.rsplit(' ').next().unwrap_or(label);
     let wide = text_width(short, SMALL_SIZE) + 4.0;
     let middle = (left + right) / 2.0;
-    if right - left >= PLATE + 2.0 {
+    if right - left >= PLATE {
         if let Some(top) = free(room, taken, long) {
             plate(svg, middle - PLATE / 2.0, top, PLATE, long);
             upright(svg, "small", middle + 3.5, top + long - 2.0, label);
@@ -232,11 +236,9 @@ fn plate(svg: &mut Svg, x: f64, y: f64, width: f64, height: f64) {
 fn boundaries(svg: &mut Svg, story: &Story, layout: &Layout) {
     let strip = &layout.guards;
     for boundary in &story.boundaries {
-        let top = layout.y(boundary.from);
-        let bottom = boundary.to.map_or(layout.bottom(), |to| layout.y(to));
-        if bottom <= top {
+        let Some((top, bottom)) = layout.span(boundary.from, boundary.to) else {
             continue;
-        }
+        };
         let lane = strip.lane_of(boundary.entry.into());
         let x = strip.edge(lane.expect("the store's lanes have all entries"));
         let to = words::step_or_end(boundary.to);

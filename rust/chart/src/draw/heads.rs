@@ -2,14 +2,19 @@
 
 use famdrize::Reply;
 
+use crate::flight::Sender;
 use crate::layout::{Layout, HEADS, HEAD_HEIGHT, HEAD_WIDTH, LEFT, ROW, SUBTITLE, TITLE};
 use crate::story::{Deed, Story};
+use crate::style;
 use crate::svg::{Attributes, Svg, N};
 use crate::words;
 
 /// After how many rows the names of the lifelines are said again, if as many rows as that come after it.
 const NAMES: usize = 20;
 const ROWS_AFTER: usize = 10;
+
+/// The height of a player's pattern in its head.
+const PATTERN: f64 = 6.0;
 
 /// What a chart shows, for those who do not see it.
 pub fn description(story: &Story, layout: &Layout) -> String {
@@ -29,9 +34,16 @@ pub fn description(story: &Story, layout: &Layout) -> String {
     let refused = refused
         .filter(|event| matches!(event.deed, Deed::Refused(_)))
         .count();
+    let part = match layout.rows.clone().count() {
+        shown if shown < story.events.len() => {
+            let (first, last) = (layout.rows.start(), layout.rows.end());
+            format!(" Of its records those from {first} to {last} are shown.")
+        }
+        _ => String::new(),
+    };
     format!(
-        "A sequence chart of a session. Time runs down, one row for each record; from left to right stand the lifelines of {}. \
-         Reads from memory: {from_memory}. Writes answered as turned back: {turned_back}. Refused steps: {refused}. At the end: {}. \
+        "A sequence chart of a session.{part} Time runs down, one row for each record; from left to right stand the lifelines of {}. \
+         In the whole session: reads from memory, {from_memory}; writes answered as turned back, {turned_back}; refused steps, {refused}; {}. \
          Each row says in words what the step was and what came of it.",
         words::list(&senders),
         story.report
@@ -46,7 +58,6 @@ pub fn draw(svg: &mut Svg, story: &Story, layout: &Layout) {
     };
     text(svg, "title", TITLE, &words::title(story));
     text(svg, "step", SUBTITLE, &words::subtitle(story, &layout.rows));
-    let (first, last) = (*layout.rows.start(), *layout.rows.end());
     bands(svg, layout);
     let (top, bottom) = (N(HEADS + HEAD_HEIGHT), N(layout.bottom()));
     for (name, x) in names(layout) {
@@ -67,11 +78,29 @@ pub fn draw(svg: &mut Svg, story: &Story, layout: &Layout) {
             &[("class", &"step middle"), ("x", &N(x)), ("y", &y)],
             &name,
         );
-        for row in (first..=last.saturating_sub(ROWS_AFTER))
-            .step_by(NAMES)
-            .skip(1)
-        {
-            let y = N(layout.unclipped(row) - ROW / 2.0 + 3.5);
+    }
+    for column in &layout.columns {
+        if let Sender::Player(player) = column.sender {
+            let class = format!("bar {}", style::pattern(player));
+            let pattern: Attributes = &[
+                ("class", &class),
+                ("x", &N(column.x - HEAD_WIDTH / 2.0)),
+                ("y", &N(HEADS + HEAD_HEIGHT)),
+                ("width", &N(HEAD_WIDTH)),
+                ("height", &N(PATTERN)),
+            ];
+            svg.leaf("rect", pattern);
+        }
+    }
+}
+
+/// Says the names of the lifelines again, in a long session.
+pub fn names_again(svg: &mut Svg, layout: &Layout) {
+    let (first, last) = (*layout.rows.start(), *layout.rows.end());
+    let rows = first..=last.saturating_sub(ROWS_AFTER);
+    for row in rows.step_by(NAMES).skip(1) {
+        let y = N(layout.unclipped(row) - ROW / 2.0 + 3.5);
+        for (name, x) in names(layout) {
             let attributes: Attributes =
                 &[("class", &"small middle halo"), ("x", &N(x)), ("y", &y)];
             svg.text("text", attributes, &name);

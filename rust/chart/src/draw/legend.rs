@@ -2,16 +2,19 @@
 
 use std::collections::BTreeSet;
 
-use famdrize::{Refusal, BARRED, OPEN_GUARD};
+use famdrize::{Player, Refusal, BARRED, OPEN_GUARD};
 
-use super::legs::sign_of_crossing;
+use super::bars::guard_of;
+use super::legs::{crossing, head, line};
 use super::rows::{shown, sign};
 use super::signs::Sign;
-use crate::flight::{End, Flight, Purpose, Sender};
+use super::ways::{self, Course, Head, Leg};
+use crate::flight::{Flight, Purpose, Sender};
 use crate::layout::{text_width, Layout, EDGE, LEFT, LEGEND, REPLY_SIZE};
-use crate::story::{Deed, Story};
+use crate::story::{Deed, Hold, Story};
 use crate::style;
 use crate::svg::{Attributes, Svg, N};
+use crate::words;
 
 /// From one line of the legend to the next, and the width of a sample.
 const LINE: f64 = 19.0;
@@ -59,9 +62,8 @@ pub fn draw(svg: &mut Svg, story: &Story, layout: &Layout, top: f64) -> f64 {
             svg.text("text", &[("x", &x), ("y", &N(y + 4.0))], item.words);
         }
         y += lines as f64 * LINE + 4.0;
-        for refusal in refusals(story, layout) {
-            let told = format!("{}: {}", refusal.number(), refusal.words());
-            for line in wrapped(&told, layout.width - LEFT - EDGE) {
+        for text in below(story, layout) {
+            for line in wrapped(&text, layout.width - LEFT - EDGE) {
                 svg.text("text", &[("x", &N(LEFT)), ("y", &N(y + 4.0))], &line);
                 y += LINE - 3.0;
             }
@@ -70,8 +72,8 @@ pub fn draw(svg: &mut Svg, story: &Story, layout: &Layout, top: f64) -> f64 {
     y
 }
 
-/// The refusals that occur, in the order of their numbers.
-fn refusals(story: &Story, layout: &Layout) -> Vec<Refusal> {
+/// What stands below the samples: the refusals that occur, and the entries of lanes that are too narrow to have them written above.
+fn below(story: &Story, layout: &Layout) -> Vec<String> {
     let refused = shown(story, layout)
         .iter()
         .filter_map(|event| match event.deed {
@@ -79,10 +81,18 @@ fn refusals(story: &Story, layout: &Layout) -> Vec<Refusal> {
             _ => None,
         });
     let numbers: BTreeSet<u32> = refused.collect();
-    numbers
-        .into_iter()
-        .filter_map(Refusal::from_number)
-        .collect()
+    let refusals = numbers.into_iter().filter_map(Refusal::from_number);
+    let refusals = refusals.map(|refusal| format!("{}: {}", refusal.number(), refusal.words()));
+    let strips = layout.strips().into_iter();
+    let narrow = strips.filter(|(_, strip)| !strip.is_labelled() && !layout.rows.is_empty());
+    let narrow = narrow.map(|(name, strip)| {
+        let lanes: Vec<String> = strip.lanes.iter().map(words::lane).collect();
+        format!(
+            "Bars of {name}, from the left, entries {}",
+            lanes.join(", ")
+        )
+    });
+    refusals.chain(narrow).collect()
 }
 
 /// A text in lines of at most this width.
@@ -90,7 +100,7 @@ fn wrapped(text: &str, width: f64) -> Vec<String> {
     let mut lines: Vec<String> = Vec::new();
     for word in text.split(' ') {
         match lines.last_mut() {
-            Some(line) if text_width(line, REPLY_SIZE) + text_width(word, REPLY_SIZE) < width => {
+            Some(line) if text_width(&format!("{line} {word}"), REPLY_SIZE) < width => {
                 line.push(' ');
                 line.push_str(word);
             }
@@ -105,7 +115,7 @@ fn items(story: &Story, layout: &Layout) -> Vec<Item> {
     if layout.rows.is_empty() {
         return Vec::new();
     }
-    let mut items = lines(&flights(story, layout));
+    let mut items = lines(story, layout);
     items.extend(bars(story, layout));
     let signs = shown(story, layout).iter().map(|event| sign(story, event));
     let signs: BTreeSet<Sign> = signs.collect();
@@ -116,152 +126,162 @@ fn items(story: &Story, layout: &Layout) -> Vec<Item> {
     items
 }
 
-/// The lines of these requests.
-fn lines(flights: &[&Flight]) -> Vec<Item> {
+/// The lines of the requests that are shown.
+fn lines(story: &Story, layout: &Layout) -> Vec<Item> {
+    let ways = ways::shown(story, layout);
+    let any = |test: &dyn Fn(&Flight, &Leg) -> bool| {
+        let mut all = ways
+            .iter()
+            .flat_map(|(flight, legs)| legs.iter().map(move |leg| (flight, leg)));
+        all.any(|(flight, leg)| test(flight, leg))
+    };
+    let sent = |test: fn(&Purpose) -> bool| {
+        any(&|flight, leg| leg.course == Course::ToStore && test(&flight.purpose))
+    };
+    let ends = |head: Head| {
+        any(&|_, leg| leg.head == head && leg.part(layout).is_some_and(|part| part.ends))
+    };
+    let dashed = |leg: &Leg| {
+        let part = leg.part(layout);
+        part.is_some_and(|part| leg.turn(layout, &part) != part.to)
+    };
     let all = [
         (
+            sent(|purpose| matches!(purpose, Purpose::Guard { .. })),
             item(
                 "guard",
-                "request for a guard, to the store",
-                line("guard", ""),
+                "request for a guard; the number is its serial",
+                arrow("guard", false, Head::Full),
             ),
-            flights
-                .iter()
-                .any(|flight| matches!(flight.purpose, Purpose::Guard { .. })),
         ),
         (
-            item("read", "read, to the store", line("read", "")),
-            flights
-                .iter()
-                .any(|flight| matches!(flight.purpose, Purpose::Read { .. })),
+            sent(|purpose| matches!(purpose, Purpose::Read { .. })),
+            item(
+                "read",
+                "read, to the store",
+                arrow("read", false, Head::Full),
+            ),
         ),
         (
-            item("write", "write or load, to the store", line("write", "")),
-            flights
-                .iter()
-                .any(|flight| matches!(flight.purpose, Purpose::Write { .. })),
+            sent(|purpose| matches!(purpose, Purpose::Write { .. })),
+            item(
+                "write",
+                "write or load, to the store",
+                arrow("write", false, Head::Full),
+            ),
         ),
         (
-            item("answer", "answer, from the store", line("answer", "")),
-            flights
-                .iter()
-                .any(|flight| flight.arrived.is_some() && flight.end != End::Gone),
+            any(&|_, leg| leg.course == Course::ToSender),
+            item(
+                "answer",
+                "answer, from the store",
+                arrow("answer", false, Head::Open),
+            ),
         ),
         (
+            any(&|_, leg| dashed(leg)),
             item(
                 "given-up",
-                "given up: nobody waits for it",
-                line("read", " given-up"),
+                "request given up: nobody waits for it",
+                arrow("read", true, Head::Full),
             ),
-            flights
-                .iter()
-                .any(|flight| flight.given_up.is_some() || matches!(flight.end, End::Dropped(_))),
         ),
         (
+            ends(Head::Dropped),
+            item(
+                "dropped",
+                "answer given up on its way",
+                arrow("answer", false, Head::Dropped),
+            ),
+        ),
+        (
+            ends(Head::Onward),
             item(
                 "in-flight",
-                "in flight when the session ends",
-                Box::new(onward),
+                "in flight at the end",
+                arrow("read", false, Head::Onward),
             ),
-            flights.iter().any(|flight| flight.end == End::InFlight),
         ),
         (
+            any(&|flight, leg| leg.crossed(layout, flight).is_some()),
             item(
                 "crossed",
-                "crossed by a write: not to be remembered",
-                Box::new(sign_of_crossing),
+                "overlapped by a write: not remembered",
+                Box::new(crossing),
             ),
-            flights.iter().any(|flight| flight.crossed.is_some()),
         ),
     ];
-    let occurring = all.into_iter().filter(|(_, occurs)| *occurs);
-    occurring.map(|(item, _)| item).collect()
+    let occurring = all.into_iter().filter(|(occurs, _)| *occurs);
+    occurring.map(|(_, item)| item).collect()
 }
 
-/// The requests that are in flight at some step shown.
-fn flights<'a>(story: &'a Story, layout: &Layout) -> Vec<&'a Flight> {
-    let last = |flight: &Flight| match flight.end {
-        End::Answered(step) | End::Dropped(step) | End::Lost(step) => step,
-        End::Gone => flight.arrived.map_or(flight.asked, |(step, _)| step),
-        End::InFlight => usize::MAX,
-    };
-    let (first_shown, last_shown) = (*layout.rows.start(), *layout.rows.end());
-    story
-        .flights
-        .iter()
-        .filter(|flight| flight.asked <= last_shown && last(flight) >= first_shown)
-        .collect()
-}
-
-/// The bars that occur. Those of a guard are shown with the pattern of the first player that owns something.
+/// The bars that occur in the rows shown. Those of a guard are shown with the pattern of a player that has one.
 fn bars(story: &Story, layout: &Layout) -> Vec<Item> {
     let mut items = Vec::new();
-    let mut columns = layout.columns.iter();
-    let owner = columns.find(|column| !column.strip.lanes.is_empty());
+    let shown = |from: usize, to: Option<usize>| layout.span(from, to).is_some();
+    let held: Vec<(Player, Hold)> = layout
+        .players()
+        .flat_map(|(player, strip)| {
+            let blocks = story.holds_of(player).blocks(&strip.lanes).into_iter();
+            let blocks = blocks.filter(move |block| shown(block.from, block.to));
+            blocks.map(move |block| (player, block.value))
+        })
+        .collect();
     let guards = story.guards.blocks(&layout.guards.lanes);
-    let has = |test: fn(u32) -> bool| guards.iter().any(|block| test(block.value));
-    if let Some(column) = owner {
-        let class = format!("owned {}", style::stroke(column.sender));
-        let words = "beside a player: owned, without a live guard";
-        items.push(item("owned", words, bar(class)));
-        if let Sender::Player(player) = column.sender {
-            if has(|guard| guard != OPEN_GUARD && guard != BARRED) {
-                let words = "with a live guard; at the store: its guard";
-                items.push(item("guarded", words, bar(style::pattern(player))));
-            }
-        }
+    let guards = guards.iter().filter(|block| shown(block.from, block.to));
+    let guards: BTreeSet<u32> = guards.map(|block| block.value).collect();
+    if let Some((player, _)) = held.iter().find(|(_, hold)| *hold == Hold::Owned) {
+        let class = format!("owned {}", style::stroke(Sender::Player(*player)));
+        items.push(item(
+            "owned",
+            "left of a player: owned, no live guard",
+            bar(class),
+        ));
     }
-    let words = "beside the store: open, no guard yet";
-    items.push(item("open", words, bar("open".to_string())));
-    if has(|guard| guard == BARRED) {
-        let words = "beside the store: barred by a restart";
+    let guarded = held
+        .iter()
+        .find(|(_, hold)| matches!(hold, Hold::Guarded(_)));
+    if let Some((player, _)) = guarded {
+        let words = "the same with a live guard, in its pattern";
+        items.push(item("guarded", words, bar(style::pattern(*player))));
+    }
+    let set = guards
+        .iter()
+        .find(|guard| **guard != OPEN_GUARD && **guard != BARRED);
+    if let Some(guard) = set {
+        let class = style::pattern(guard_of(story, *guard));
+        items.push(item(
+            "set",
+            "right of the store: guard of that player",
+            bar(class),
+        ));
+    }
+    if guards.contains(&OPEN_GUARD) {
+        let words = "right of the store: open, no guard yet";
+        items.push(item("open", words, bar("open".to_string())));
+    }
+    if guards.contains(&BARRED) {
+        let words = "right of the store: barred by a restart";
         items.push(item("barred", words, bar("barred".to_string())));
     }
-    if !story.boundaries.is_empty() {
-        items.push(item(
-            "boundary",
-            "boundary: a tablet begins",
-            Box::new(boundary),
-        ));
+    let mut boundaries = story.boundaries.iter();
+    if boundaries.any(|boundary| shown(boundary.from, boundary.to)) {
+        let words = "boundary: a tablet begins";
+        items.push(item("boundary", words, Box::new(boundary)));
     }
     items
 }
 
-/// A short line to the right.
-fn line(weight: &'static str, dashes: &'static str) -> Sample {
+/// A short arrow to the right.
+fn arrow(weight: &'static str, given_up: bool, end: Head) -> Sample {
     Box::new(move |svg, x, y| {
-        let line = format!("M{} {} h28", N(x - 14.0), N(y));
+        let (from, to) = ((x - 14.0, y), (x + 14.0, y));
         let class = format!("leg {}", style::PLAIN_STROKE);
         svg.group("g", &[("class", &class)], |svg| {
-            let class = format!("{weight}{dashes}");
-            svg.leaf("path", &[("class", &class), ("d", &line)]);
-            if weight == "guard" {
-                svg.leaf("path", &[("class", &"inner"), ("d", &line)]);
-            }
-            let (class, head) = match weight {
-                "answer" => (
-                    "answer",
-                    format!("M{} {} l-8 -4 m8 4 l-8 4", N(x + 14.0), N(y)),
-                ),
-                _ => (
-                    style::PLAIN_FILL,
-                    format!("M{} {} l-9 -4 v8 Z", N(x + 14.0), N(y)),
-                ),
-            };
-            svg.leaf("path", &[("class", &class), ("d", &head)]);
+            line(svg, weight, from, to, given_up);
+            head(svg, end, from, to, style::PLAIN_FILL, 0.0);
         });
     })
-}
-
-/// The head of a request in flight.
-fn onward(svg: &mut Svg, x: f64, y: f64) {
-    let line = format!("M{} {} h28", N(x - 14.0), N(y));
-    let class = format!("leg {}", style::PLAIN_STROKE);
-    svg.group("g", &[("class", &class)], |svg| {
-        svg.leaf("path", &[("class", &"read"), ("d", &line)]);
-        let head = format!("M{} {} l-9 -4 v8 Z", N(x + 14.0), N(y));
-        svg.leaf("path", &[("class", &"sign"), ("d", &head)]);
-    });
 }
 
 /// A piece of a bar.

@@ -7,6 +7,7 @@ mod legs;
 mod rows;
 mod signs;
 mod stop;
+mod ways;
 
 use crate::layout::{Layout, Rows};
 use crate::story::Story;
@@ -49,6 +50,7 @@ pub fn draw(story: &Story, rows: Rows) -> String {
             heads::draw(svg, story, &layout);
             bars::draw(svg, story, &layout);
             legs::draw(svg, story, &layout);
+            heads::names_again(svg, &layout);
         });
         rows::draw(svg, story, &layout);
         svg.splice(below);

@@ -2,9 +2,10 @@
 
 use famdrize::Reply;
 
-use super::legs::{lost_at, serial};
+use super::legs::serial;
 use super::signs::Sign;
-use crate::flight::{Outcome, Purpose, Sender};
+use super::ways::lost_at;
+use crate::flight::{Outcome, Purpose};
 use crate::layout::{Layout, MARGIN, ORDINALS};
 use crate::story::{At, Deed, Event, Memory, Story};
 use crate::svg::{Attributes, Svg, N};
@@ -106,8 +107,7 @@ fn row(svg: &mut Svg, story: &Story, layout: &Layout, event: &Event) {
 /// The name of a place in the file.
 fn name(at: At) -> String {
     match at {
-        At::Sender(Sender::Player(player)) => player.to_string(),
-        At::Sender(Sender::Loader) => "the loader".to_string(),
+        At::Sender(sender) => sender.to_string(),
         At::Store => "the store".to_string(),
         At::Way(_) => "way".to_string(),
         At::Margin => "margin".to_string(),
@@ -137,7 +137,8 @@ fn beside(svg: &mut Svg, layout: &Layout, event: &Event) {
     }
 }
 
-/// The rows shown that have something in the store's lanes, and the last of those lanes: from the first one on, over which the line to it runs.
+/// The rows shown that have something in the store's lanes, each with the last lane that has: a line runs there from the lifeline, over all
+/// lanes before it.
 pub fn met(story: &Story, layout: &Layout) -> Vec<(f64, usize)> {
     let met = shown(story, layout).iter().filter_map(|event| {
         let (_, last) = entries(story, event)?;

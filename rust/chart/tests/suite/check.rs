@@ -240,28 +240,30 @@ impl Shown<'_> {
             expect("a leg is drawn twice", twice.is_none())?;
         }
         for (serial, request) in &self.expected.requests {
-            for (name, from, to, dashes) in legs(request) {
+            for course in courses(request) {
+                let name = course.name;
                 let leg = drawn.remove(&(*serial, name));
-                let shown = from <= self.last && to.map_or(true, |to| to >= self.first);
+                let begun = course.from <= self.last;
+                let shown = begun && course.to.map_or(true, |to| to >= self.first);
                 let told = |told: String| format!("{name} {serial}: {told}");
                 expect("is drawn", leg.is_some() == shown).map_err(told)?;
                 if let Some(leg) = leg {
-                    self.leg(request, leg, from, to, dashes).map_err(told)?;
+                    self.leg(request, leg, &course).map_err(told)?;
                 }
             }
         }
         expect("a leg of nothing", drawn.is_empty())
     }
 
-    /// Tests a leg that should go from one step to another, or to the end, with dashes from a step on.
-    fn leg(
-        &self,
-        request: &Request,
-        leg: &Leg,
-        from: usize,
-        to: Option<usize>,
-        dashes: Option<usize>,
-    ) -> Result<(), String> {
+    /// Tests a leg that should take a course.
+    fn leg(&self, request: &Request, leg: &Leg, course: &Course) -> Result<(), String> {
+        let Course {
+            from,
+            to,
+            dashes,
+            arrives,
+            ..
+        } = *course;
         let end = to.map_or("end".to_string(), |to| to.to_string());
         expect("joins other steps", (leg.from, &leg.to) == (from, &end))?;
         let lifeline = |name: &str| self.picture.lifelines[name];
@@ -274,7 +276,6 @@ impl Shown<'_> {
         let whole_end = self.y(self.expected.events.len()) + self.pitch() / 2.0 - 3.0;
         let begins = (begin, self.y(from));
         let ends_at = to.map_or(whole_end, |to| self.y(to));
-        let arrives = to.is_some() && request.lost != to;
         expect("at another height", near(leg.begins.1, self.clipped(from)))?;
         expect(
             "at another height",
@@ -328,7 +329,7 @@ impl Shown<'_> {
         let mut same = same.map(|(row, drawn)| drawn - row);
         expect(
             "crossed elsewhere",
-            same.all(|below| (-0.2..self.pitch() * 0.5).contains(&below)),
+            same.all(|below| (-0.2..self.pitch() * 0.6).contains(&below)),
         )
     }
 
@@ -482,21 +483,38 @@ fn lost(step: calls::Step) -> u32 {
     calls::Fields::from(step).serial
 }
 
-/// The legs that a request should have: the name, the step from which, the step to which (none for the end), and that from which on it is
-/// given up.
-fn legs(request: &Request) -> Vec<(&'static str, usize, Option<usize>, Option<usize>)> {
-    let (asked, given_up) = (request.asked, request.given_up);
-    let Some(arrived) = request.arrived else {
-        return vec![("request", asked, request.lost, given_up)];
+/// How a leg should run: from a step to another, none for the end; given up from a step on; and whether it arrives.
+struct Course {
+    name: &'static str,
+    from: usize,
+    to: Option<usize>,
+    dashes: Option<usize>,
+    arrives: bool,
+}
+
+/// The legs that a request should have.
+fn courses(request: &Request) -> Vec<Course> {
+    let given_up = request.given_up;
+    let forth = Course {
+        name: "request",
+        from: request.asked,
+        to: request.arrived.or(request.lost),
+        dashes: given_up.filter(|step| request.arrived.map_or(true, |arrived| *step < arrived)),
+        arrives: request.arrived.is_some(),
     };
-    let before = given_up.filter(|step| *step < arrived);
-    let forth = ("request", asked, Some(arrived), before);
-    let back = match (request.answered, given_up) {
-        (Some(answered), _) => ("answer", arrived, Some(answered), None),
-        // one that was given up leaves when it arrives
-        (None, Some(_)) if before.is_some() => return vec![forth],
-        (None, Some(dropped)) => ("answer", arrived, Some(dropped), Some(arrived)),
-        (None, None) => ("answer", arrived, None, None),
+    let Some(arrived) = request.arrived else {
+        return vec![forth];
+    };
+    // one that was given up leaves when it arrives
+    if forth.dashes.is_some() {
+        return vec![forth];
+    }
+    let back = Course {
+        name: "answer",
+        from: arrived,
+        to: request.answered.or(given_up),
+        dashes: None,
+        arrives: request.answered.is_some(),
     };
     vec![forth, back]
 }

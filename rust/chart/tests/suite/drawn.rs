@@ -214,8 +214,11 @@ fn parts_of_sessions() {
                 panic!("part {at}, {first} to {last}: {told}");
             }
         }
-        assert_eq!(chart.draw_rows(1..=records), Some(chart.draw()));
-        for (first, last) in [(0, 1), (2, 1), (1, records + 1), (records + 1, records + 1)] {
+        // no row is beyond the last, and none before the first
+        for last in [records, records + 1, usize::MAX] {
+            assert_eq!(chart.draw_rows(1..=last), Some(chart.draw()));
+        }
+        for (first, last) in [(0, 1), (2, 1), (records + 1, records + 1)] {
             assert_eq!(chart.draw_rows(first..=last), None);
         }
     }

@@ -213,7 +213,8 @@ fn closed(root: &Element, all: &[&Element]) -> Result<(), String> {
             references(value, &ids)?;
         }
         if element.name == "style" {
-            expect("something from elsewhere", !element.text().contains('@'))?;
+            let rules = element.text().replace("@media print{", "");
+            expect("something from elsewhere", !rules.contains('@'))?;
             references(&element.text(), &ids)?;
         }
     }
@@ -476,17 +477,25 @@ fn explained(all: &[&Element], legend: &BTreeMap<String, String>) -> Result<(), 
             !occurs || legend.contains_key(class),
         )?;
     }
-    let guarded = drawn.iter().any(|element| {
-        let pattern = element.has_class("bar")
-            && !["owned", "open", "barred"]
-                .iter()
-                .any(|class| element.has_class(class));
-        pattern
-    });
-    expect(
-        "a bar is not explained",
-        !guarded || legend.contains_key("guarded"),
-    )
+    for (strip, name) in [("the store", "set"), ("player", "guarded")] {
+        let strips = with_class(all, "strip").into_iter();
+        let strips = strips.filter(|element| {
+            element
+                .get("data-of")
+                .is_some_and(|of| of.starts_with(strip))
+        });
+        let bars = strips.flat_map(|element| element.children());
+        let mut bars = bars.filter(|child| child.has_class("bar"));
+        let occurs = bars.any(|bar| {
+            bar.get("data-is")
+                .is_some_and(|is| is.starts_with("guard "))
+        });
+        expect(
+            "a bar is not explained",
+            !occurs || legend.contains_key(name),
+        )?;
+    }
+    Ok(())
 }
 
 /// The point around which a shape is drawn.

@@ -37,7 +37,7 @@ fn notes(step: Step, reply: Reply, before: &State, after: &State) -> Vec<String>
                     .find(|known| known.serial == now.serial);
                 is_overlapped(now) && !known.is_some_and(is_overlapped)
             });
-            let crossed = (!crossed.is_empty()).then(|| format!("crossed: {crossed}"));
+            let crossed = (!crossed.is_empty()).then(|| format!("overlapped: {crossed}"));
             carried(sent).into_iter().chain(crossed).collect()
         }
         Step::Deliver { serial } => vec![arrived(request(before, serial), after)],

@@ -170,6 +170,9 @@ const CHANGES: &[(&str, Change)] = &[
     ("a line is not explained", |root| {
         remove(root, "sample", "data-is", "given-up")
     }),
+    ("a guard of the store is not explained", |root| {
+        remove(root, "sample", "data-is", "set")
+    }),
     ("a bar is not explained", |root| {
         remove(root, "sample", "data-is", "guarded")
     }),
@@ -272,8 +275,11 @@ const CHANGES: &[(&str, Change)] = &[
     ("an answer that is taken has dashes", |root| {
         of(leg(root, "answer", 3), "answer", "", "").set("class", "answer given-up");
     }),
-    ("a dropped answer has no dashes", |root| {
-        of(leg(root, "answer", 5), "answer", "", "").set("class", "answer");
+    ("a dropped answer has dashes", |root| {
+        of(leg(root, "answer", 5), "answer", "", "").set("class", "answer given-up");
+    }),
+    ("a dropped answer reaches its player", |root| {
+        bend(leg(root, "answer", 5), "answer", 2, -60.0)
     }),
     ("a request in flight arrives", |root| {
         bend(leg(root, "request", 11), "read", 2, 200.0)
