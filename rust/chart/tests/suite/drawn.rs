@@ -15,6 +15,12 @@ use model::trial::{crowded_list, random_list};
 use super::check::{check, check_whole};
 use super::expected::Expected;
 
+/// How many times the default number of random sessions is drawn: `FAMDRIZE_SCALE`, 1 if not set.
+fn scale() -> usize {
+    let set = std::env::var("FAMDRIZE_SCALE").ok();
+    set.and_then(|text| text.parse().ok()).unwrap_or(1)
+}
+
 /// Draws a session and tests the picture; twice, for the same bytes give the same picture.
 fn drawn(name: &str, session: &[u8]) -> String {
     let text = Chart::of(session).draw();
@@ -118,7 +124,7 @@ fn random_sessions_in_which_every_sign_occurs() {
     let mut rng = Prng::new(1);
     let mut signs = BTreeSet::new();
     let mut places = BTreeSet::new();
-    for at in 0..400 {
+    for at in 0..400 * scale() {
         let session = random(&mut rng);
         drawn(&format!("random {at}"), &session);
         for event in Expected::of(&session).events {
@@ -134,7 +140,7 @@ fn random_sessions_in_which_every_sign_occurs() {
 #[test]
 fn damaged_sessions() {
     let mut rng = Prng::new(2);
-    for at in 0..1000 {
+    for at in 0..1000 * scale() {
         let mut session = random(&mut rng);
         session.truncate(4 + rng.index(200));
         damage(&mut rng, &mut session);
@@ -145,7 +151,7 @@ fn damaged_sessions() {
 #[test]
 fn any_bytes() {
     let mut rng = Prng::new(3);
-    for at in 0..1000 {
+    for at in 0..1000 * scale() {
         let most = [5, 40, 400][rng.index(3)];
         let length = rng.index(most);
         let mut session: Vec<u8> = (0..length).map(|_| rng.below(256) as u8).collect();
@@ -201,7 +207,7 @@ fn the_longest_sessions() {
 #[test]
 fn parts_of_sessions() {
     let mut rng = Prng::new(5);
-    for at in 0..150 {
+    for at in 0..150 * scale() {
         let session = random(&mut rng);
         let chart = Chart::of(&session);
         let expected = Expected::of(&session);

@@ -37,25 +37,25 @@ fn of<'a>(root: &'a mut Element, class: &str, attribute: &str, value: &str) -> &
     found.unwrap_or_else(|| panic!("no {class} with {attribute} {value}"))
 }
 
-/// Removes the first such element.
-fn remove(root: &mut Element, class: &str, attribute: &str, value: &str) {
-    let test =
-        |node: &Node| matches!(node, Node::Element(child) if is(child, class, attribute, value));
-    let parent = root.find_mut(&|element| element.inside.iter().any(test));
-    let parent = parent.unwrap_or_else(|| panic!("no {class} with {attribute} {value}"));
-    let at = parent.inside.iter().position(test).expect("it is there");
-    parent.inside.remove(at);
-}
-
-/// Puts a second one behind the first such element.
-fn repeat(root: &mut Element, class: &str, attribute: &str, value: &str) {
-    let test =
-        |node: &Node| matches!(node, Node::Element(child) if is(child, class, attribute, value));
+/// The element in which the first element stands for which a test holds, and its place there.
+fn around<'a>(root: &'a mut Element, test: &dyn Fn(&Element) -> bool) -> (&'a mut Element, usize) {
+    let test = |node: &Node| matches!(node, Node::Element(child) if test(child));
     let parent = root.find_mut(&|element| element.inside.iter().any(test));
     let parent = parent.expect("it is there");
     let at = parent.inside.iter().position(test).expect("it is there");
-    let copy = parent.inside[at].clone();
-    parent.inside.insert(at, copy);
+    (parent, at)
+}
+
+/// Removes the first such element.
+fn remove(root: &mut Element, class: &str, attribute: &str, value: &str) {
+    let (parent, at) = around(root, &|element| is(element, class, attribute, value));
+    parent.inside.remove(at);
+}
+
+/// Puts a second one before the first such element.
+fn repeat(root: &mut Element, class: &str, attribute: &str, value: &str) {
+    let (parent, at) = around(root, &|element| is(element, class, attribute, value));
+    parent.inside.insert(at, parent.inside[at].clone());
 }
 
 /// The row of a step.
@@ -93,7 +93,7 @@ fn shift(element: &mut Element, attribute: &str, by: f64) {
     element.set(attribute, &(number + by).to_string());
 }
 
-/// Moves a path's points: those of which one number is `at`, counted from 0, by so much.
+/// Adds so much to one of the numbers of a path, counted from 0.
 fn bend(element: &mut Element, class: &str, at: usize, by: f64) {
     let line = element
         .find_mut(&|element| element.has_class(class))
@@ -382,11 +382,7 @@ fn named<'a>(root: &'a mut Element, name: &str) -> &'a mut Element {
 
 /// Removes the first element of this name.
 fn remove_named(root: &mut Element, name: &str) {
-    let test = |node: &Node| matches!(node, Node::Element(child) if child.name == name);
-    let parent = root
-        .find_mut(&|element| element.inside.iter().any(test))
-        .expect("it is there");
-    let at = parent.inside.iter().position(test).expect("it is there");
+    let (parent, at) = around(root, &|element| element.name == name);
     parent.inside.remove(at);
 }
 
