@@ -1,7 +1,7 @@
 //! Draws a session as a sequence chart: one lifeline for each player that occurs, for the loader if it does, and for the store; time runs down,
 //! one row for each record. The chart is the text of an SVG file, made of the session's bytes alone: the same bytes give the same text.
 //!
-//! Nothing here knows the rules of the steps.
+//! The rules of the steps are not written here again: what happened is asked of the proved library.
 //!
 //! | Module | Holds |
 //! |---|---|

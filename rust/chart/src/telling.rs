@@ -1,8 +1,8 @@
 //! Takes a session's records with the library, and reads off its tables what each did.
 //!
-//! Nothing here knows the rules. Replies and the report are those of one run over the session, as a listing has them; then each record is taken
-//! by itself, and what it did is read off the tables that it left. Whether a guard is live, or a value is remembered, is asked of the library
-//! too: by a write, or a read, that is tried and not taken.
+//! The rules are not written here again (docs/DECISIONS.md, 150, names the two things that are taken for granted). Replies and the report are
+//! those of one run over the session, as a listing has them; then each record is taken by itself, and what it did is read off the tables that it
+//! left. Whether a guard is live, or a value is remembered, is asked of the library too: by a write, or a read, that is tried and not taken.
 
 use famdrize::{decode, Fields, Player, Reply, Report, Step, Tables};
 
