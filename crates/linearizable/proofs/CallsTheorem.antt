@@ -7,16 +7,15 @@ use Prim.Native.Nat.{ℕ}
 use lib.ListN.{length}
 use borrow.Author.Tests.{eq-eqb}
 use Rattle.store.specs.Table.{tableOf as store-table}
-use Rattle.store.specs.declared.Reply.{Reply}
 use Rattle.store.proofs.Tables.{table-parts as store-parts}
 use Rattle.requests.proofs.Basics.{is-true}
 use Rattle.players.specs.declared.Step.{Step}
-use Rattle.players.specs.Rules.{State, step, replies, fresh}
+use Rattle.players.specs.Rules.{State, replies, fresh}
 use Rattle.players.specs.Table.{players-words, tableOf, valid}
 use Rattle.players.specs.Calls.{whole}
 use Rattle.players.specs.Played.{AllFit, tablesOf, state-after}
 use Rattle.players.proofs.Tables.{Ok, length-of, valid-table, state-table, ok-fresh}
-use Rattle.players.proofs.PlayedLaws.{taken-is, ok-after}
+use Rattle.players.proofs.PlayedLaws.{replies-append, after-append, taken-is, ok-after}
 use Rattle.session.specs.Runs.{run, whole-places}
 use Rattle.steps.specs.RunCalls.{encoded, ran}
 use Rattle.steps.proofs.LoopLaws.{replies-filled}
@@ -29,18 +28,6 @@ use Rattle.linearizable.specs.Calls.{Call, a-step, exported-step, a-run,
 use Rattle.linearizable.proofs.Theorem.{theorem}
 use Rattle.linearizable.proofs.SessionTheorem.{run-of-steps}
 use Rattle.linearizable.proofs.RunTheorem.{bytes-fit}
-
--- ---- lists of steps, one after the other
-
-replies-append : (s : State) (xs ys : List Step) → replies s (xs ++ ys) ≡ replies s xs ++ replies (state-after s xs) ys
-unfolding state-after
-replies-append s [] ys = refl
-replies-append s (x ∷ xs) ys = ap (λ (l : List Reply). step s x .reply ∷ l) (replies-append (step s x .state) xs ys)
-
-after-append : (s : State) (xs ys : List Step) → state-after s (xs ++ ys) ≡ state-after (state-after s xs) ys
-unfolding state-after
-after-append s [] ys = refl
-after-append s (x ∷ xs) ys = after-append (step s x .state) xs ys
 
 -- ---- one call on the tables that hold a state
 
@@ -100,19 +87,25 @@ does s k (a-run-preview session budget list) h = does-nothing s (a-run-preview s
 
 -- ---- all of them
 
-record All (s : State) (cs : List Call) : Type 0 where
-  replied : all-replies (tablesOf s) cs ≡ replies s (all-steps cs)
-  left : after-all (tablesOf s) cs ≡ tablesOf (state-after s (all-steps cs))
-  ok : Ok (state-after s (all-steps cs))
+fit-append : (xs ys : List Step) → AllFit xs → AllFit ys → AllFit (xs ++ ys)
+fit-append [] ys f g = g
+fit-append (x ∷ xs) ys f g = (f .0, fit-append xs ys (f .1) g)
 
-all : (s : State) → Ok s → (cs : List Call) → AllHanded cs → All s cs
+pub record All (s : State) (cs : List Call) : Type 0 where
+  pub fit : AllFit (all-steps cs)
+  pub replied : all-replies (tablesOf s) cs ≡ replies s (all-steps cs)
+  pub left : after-all (tablesOf s) cs ≡ tablesOf (state-after s (all-steps cs))
+  pub ok : Ok (state-after s (all-steps cs))
+
+pub all : (s : State) → Ok s → (cs : List Call) → AllHanded cs → All s cs
 unfolding all-replies after-all all-steps state-after
-all s k [] h = record { replied = refl; left = refl; ok = k }
+all s k [] h = record { fit = tt; replied = refl; left = refl; ok = k }
 all s k (c ∷ cs) h =
     let d = does s k c (h .0) in
     let s′ = state-after s (steps-of c) in
     let r = all s′ (ok-after s k (steps-of c) (d .fit)) cs (h .1) in
     record {
+      fit = fit-append (steps-of c) (all-steps cs) (d .fit) (r .fit);
       replied = rw (d .replied, d .left, r .replied, replies-append s (steps-of c) (all-steps cs));
       left = rw (d .left, r .left, after-append s (steps-of c) (all-steps cs));
       ok = subst Ok (sym (after-append s (steps-of c) (all-steps cs))) (r .ok);

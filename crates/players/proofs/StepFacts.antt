@@ -38,7 +38,7 @@ pub check-elim : (P : Result → Type 0) (s : State) (b : Bool) (n : ℕ) (x : R
 check-elim P s true n x p f = p
 check-elim P s false n x p f = f refl
 
-every-at : (lo n : ℕ) (f : ℕ → Bool) (e : ℕ) → every lo n f ≡ true → lo ≤ e → e < lo + n → f e ≡ true
+pub every-at : (lo n : ℕ) (f : ℕ → Bool) (e : ℕ) → every lo n f ≡ true → lo ≤ e → e < lo + n → f e ≡ true
 every-at lo zero f e h a b = absurd (omega arith)
 every-at lo (suc n) f e h a b =
     ⊎-elim (λ t. let z : e ≡ lo = eqb-true e lo t in rw z (and-left (f lo) (every (suc lo) n f) h))
@@ -65,13 +65,18 @@ pub record PlaceLeft (s : State) (p : ℕ) : Type 0 where
   pub place : no-place p (s .requests) ≡ false
   pub serial : SerialLeft s
 
--- the request with serial n, not delivered
+-- the request with serial n
+pub record Named (s : State) (r : Request) (n : ℕ) : Type 0 where
+  pub member : In r (s .requests)
+  pub serial : r .serial ≡ n
+
+-- the same, not delivered
 pub record Undelivered (s : State) (r : Request) (n : ℕ) : Type 0 where
   pub member : In r (s .requests)
   pub serial : r .serial ≡ n
   pub undelivered : r .delivered ≡ false
 
--- the request with serial n, delivered and pending
+-- delivered and pending
 pub record Answerable (s : State) (r : Request) (n : ℕ) : Type 0 where
   pub member : In r (s .requests)
   pub serial : r .serial ≡ n

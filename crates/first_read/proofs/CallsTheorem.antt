@@ -1,0 +1,85 @@
+-- The promise holds of tables, of runs over session bytes and of any calls.
+-- Assumes nothing.
+use mathlib.Core.Path.{_≡_, refl, sym, ap, _∙_, subst}
+use mathlib.Core.Bool.{true, not}
+use mathlib.Core.List.{List, [], _∷_, _++_, append-nil}
+use Prim.Native.Nat.{ℕ}
+use borrow.Author.Tests.{leb-true, le-leb, le-ltb}
+use lib.Dec.{T, leb, ltb}
+use Rattle.store.specs.declared.Range.{Range}
+use Rattle.requests.specs.Region.{request-holds}
+use Rattle.requests.proofs.Basics.{is-true, and-left}
+use Rattle.requests.proofs.Rising.{each-at}
+use Rattle.players.specs.declared.Step.{Step}
+use Rattle.players.specs.Replies.{done}
+use Rattle.players.specs.Rules.{State, replies}
+use Rattle.players.specs.Calls.{Done}
+use Rattle.players.specs.Played.{AllFit, Tables, tables, tablesOf, state-after, played}
+use Rattle.players.proofs.Tables.{Ok, ok-tables}
+use Rattle.players.proofs.CheckLaws.{store-long, players-long}
+use Rattle.players.proofs.CallLaws.{passed, same-tables}
+use Rattle.players.proofs.PlayedLaws.{played-is, ok-after}
+use Rattle.linearizable.specs.Calls.{Call, a-run, all-steps, all-replies}
+use Rattle.linearizable.proofs.Tests.{and-true}
+use Rattle.linearizable.proofs.CallsTheorem.{all as all-calls}
+use Rattle.first_read.specs.Promise.{all, rules-used, Others, next, supposed}
+use Rattle.first_read.specs.Lines.{line, told}
+use Rattle.first_read.specs.Calls.{Keeps, held-in, TablesPromise, Told, RunPromise, CallsPromise}
+use Rattle.first_read.proofs.Lists.{none-any}
+use Rattle.first_read.proofs.Ranges.{entries-all}
+use Rattle.first_read.proofs.LineTheorem.{followed, joined, line-taken, line-theorem}
+
+-- ---- ‘In tables that keep the rules’
+
+-- the rule that is used is one of theirs
+ok-rules : (s : State) (g : Range) → Ok s → all (rules-used s g) ≡ true
+unfolding request-holds
+ok-rules s g k =
+    let epochs = entries-all g (λ e. leb (s .owners .epoch e) (s .last)) (λ e w. le-leb (s .owners .epoch e) (s .last) (k .owners .epoch e)) in
+    let serials = none-any (λ r. ltb (s .last) (r .serial)) (s .requests)
+    (λ r i. le-ltb (s .last) (r .serial) (leb-true (r .serial) (s .last) (is-true (leb (r .serial) (s .last)) (and-left (leb (r .serial) (s .last)) _ (each-at (λ q. T (request-holds (s .last) q)) 0 (s .requests) (k .requests) r i))))) in
+    and-true _ _ epochs (and-true _ true (ap not serials) refl)
+
+module _ (u : Tables) (c : Keeps u) where
+  -- they hold a state that is sound, and are its tables
+  held-ok : Ok (held-in u)
+  held-ok =
+      let w = passed (u .store) (u .players) done (sym c) refl in
+      ok-tables (u .store) (u .players) (rw (w .1) tt) (store-long (u .store) (u .players) (w .0)) (players-long (u .store) (u .players) (w .0))
+
+  same : tablesOf (held-in u) ≡ u
+  same =
+      let w = passed (u .store) (u .players) done (sym c) refl in
+      ap (λ (d : Done). tables (d .store) (d .players)) (same-tables (u .store) (u .players) (w .0) (rw (w .1) tt) done)
+
+-- ---- the promise
+
+fit-before : (xs ys : List Step) → AllFit (xs ++ ys) → AllFit xs
+fit-before [] ys f = tt
+fit-before (x ∷ xs) ys f = (f .0, fit-before xs ys (f .1))
+
+module _ (p : ℕ) (g : Range) (e : ℕ) (o : Others) where
+  -- of a list of steps among which those of the promise stand
+  among : (s : State) (before after : List Step) → Ok s → AllFit before → let s′ = state-after s before in
+      all (supposed s′ p g e o) ≡ true → Told p g e o s before after (replies s (before ++ (line s′ p g e o ++ after)))
+  among s before after k f h =
+      let s′ = state-after s before in
+      let t = line-taken s′ p g e o (ok-rules s′ g (ok-after s k before f)) h in
+      joined s before _ _ _ (followed s′ (line s′ p g e o) after (told s′ p g e o) (next s′ p g e o .state) t) .replied
+
+  pub tables-theorem : (u : Tables) → TablesPromise p g e o u
+  tables-theorem u c f h =
+      let s = held-in u in
+      subst (λ (y : Tables). played (y .store) (y .players) (line s p g e o) ≡ told s p g e o) (same u c)
+      (played-is s (held-ok u c) (line s p g e o) f ∙ line-theorem s p g e o (ok-rules s g (held-ok u c)) h)
+
+  pub calls-theorem : (u : Tables) (cs : List Call) (before after : List Step) → CallsPromise p g e o u cs before after
+  calls-theorem u cs before after c handed steps h =
+      let s = held-in u in
+      let a = all-calls s (held-ok u c) cs handed in
+      ap (λ (y : Tables). all-replies y cs) (sym (same u c)) ∙ a .replied ∙ ap (replies s) steps ∙ among s before after (held-ok u c) (fit-before before _ (subst AllFit steps (a .fit))) h
+
+  pub run-theorem : (u : Tables) (session : List ℕ) (budget : ℕ) (list : List ℕ) (before after : List Step) → RunPromise p g e o u session budget list before after
+  unfolding all-steps all-replies
+  run-theorem u session budget list before after c bytes steps h =
+      sym (append-nil _) ∙ calls-theorem u (a-run session budget list ∷ []) before after c (bytes, tt) (append-nil _ ∙ steps) h
