@@ -15,7 +15,13 @@ use Rattle.players.specs.declared.Step.the-variants.{Assign, Release, RequestGu
 use Rattle.players.specs.Rules.{State, Result, fresh, with-last, with-owners, with-requests}
 use Rattle.players.specs.Played.{state-after}
 use Rattle.players.specs.Cases.{range}
-use Rattle.first_read.specs.Promise.{rules-used, Others, asked, arrived, answered, read, read-arrived, read-answered, next, supposed}
+use Rattle.players.specs.Kinds.{map-of, step-of}
+use Rattle.session.specs.Layout.{fields-length, record-length, fields}
+use Rattle.session.specs.Records.{tested}
+use Rattle.session.specs.Mark.{mark, begins}
+use Rattle.session.specs.Runs.{steps-from, steps}
+use Rattle.first_read.specs.Promise.{all, rules-used, Others, asked, arrived, answered, read, read-arrived, read-answered, next, supposed}
+use Rattle.first_read.specs.Lines.{line}
 
 -- ---- a case
 
@@ -268,3 +274,69 @@ all-needed = refl
 -- in none of the cases the promise is kept
 pub all-fail : some-case (λ c. same (c .codes) promised) missing-cases ≡ false
 all-fail = refl
+
+-- ---- a session of bytes
+
+-- `sessions/first-read`: 35 records, of which the player's are the 15th, 19th, 22nd, 25th, 28th, 30th and 33rd
+abbrev pub first-read-session : List ℕ
+first-read-session =
+    mark
+    ++ (0x05 ∷ 0x0A ∷ 0x78
+    ∷ 0x0F ∷ 0x01 ∷ 0x00 ∷ 0x64 ∷ 0x78 ∷ 0x00
+    ∷ 0x0F ∷ 0x03 ∷ 0x00 ∷ 0x64 ∷ 0x78 ∷ 0x00
+    ∷ 0x21 ∷ 0x06 ∷ 0x02 ∷ 0x00 ∷ 0x00 ∷ 0x00
+    ∷ 0x21 ∷ 0x07 ∷ 0x02 ∷ 0x00 ∷ 0x00 ∷ 0x00
+    ∷ 0x17 ∷ 0x05 ∷ 0x00 ∷ 0x69 ∷ 0x07 ∷ 0x00 ∷ 0x00 ∷ 0x00
+    ∷ 0x17 ∷ 0x05 ∷ 0x00 ∷ 0x6A ∷ 0x08 ∷ 0x00 ∷ 0x00 ∷ 0x00
+    ∷ 0x21 ∷ 0x06 ∷ 0x03 ∷ 0x00 ∷ 0x00 ∷ 0x00
+    ∷ 0x21 ∷ 0x06 ∷ 0x04 ∷ 0x00 ∷ 0x00 ∷ 0x00
+    ∷ 0x21 ∷ 0x07 ∷ 0x03 ∷ 0x00 ∷ 0x00 ∷ 0x00
+    ∷ 0x21 ∷ 0x07 ∷ 0x04 ∷ 0x00 ∷ 0x00 ∷ 0x00
+    ∷ 0x17 ∷ 0x05 ∷ 0x00 ∷ 0x69 ∷ 0x09 ∷ 0x00 ∷ 0x00 ∷ 0x00
+    ∷ 0x07 ∷ 0x04 ∷ 0x00 ∷ 0x6A
+    ∷ 0x0F ∷ 0x01 ∷ 0x01 ∷ 0x64 ∷ 0x78 ∷ 0x00
+    ∷ 0x0F ∷ 0x03 ∷ 0x01 ∷ 0x64 ∷ 0x78 ∷ 0x00
+    ∷ 0x05 ∷ 0x0A ∷ 0x64
+    ∷ 0x07 ∷ 0x04 ∷ 0x00 ∷ 0x6A
+    ∷ 0x21 ∷ 0x09 ∷ 0x07 ∷ 0x00 ∷ 0x00 ∷ 0x00
+    ∷ 0x21 ∷ 0x06 ∷ 0x07 ∷ 0x00 ∷ 0x00 ∷ 0x00
+    ∷ 0x21 ∷ 0x06 ∷ 0x05 ∷ 0x00 ∷ 0x00 ∷ 0x00
+    ∷ 0x0F ∷ 0x01 ∷ 0x01 ∷ 0x78 ∷ 0x82 ∷ 0x00
+    ∷ 0x21 ∷ 0x07 ∷ 0x07 ∷ 0x00 ∷ 0x00 ∷ 0x00
+    ∷ 0x05 ∷ 0x0C ∷ 0x69
+    ∷ 0x15 ∷ 0x0F ∷ 0x69 ∷ 0x04 ∷ 0x00 ∷ 0x00 ∷ 0x00
+    ∷ 0x07 ∷ 0x04 ∷ 0x01 ∷ 0x69
+    ∷ 0x21 ∷ 0x07 ∷ 0x05 ∷ 0x00 ∷ 0x00 ∷ 0x00
+    ∷ 0x21 ∷ 0x06 ∷ 0x0A ∷ 0x00 ∷ 0x00 ∷ 0x00
+    ∷ 0x21 ∷ 0x06 ∷ 0x0B ∷ 0x00 ∷ 0x00 ∷ 0x00
+    ∷ 0x03 ∷ 0x0D ∷ 0x00
+    ∷ 0x21 ∷ 0x07 ∷ 0x0B ∷ 0x00 ∷ 0x00 ∷ 0x00
+    ∷ 0x0F ∷ 0x01 ∷ 0x00 ∷ 0x64 ∷ 0x2C ∷ 0x01
+    ∷ 0x21 ∷ 0x07 ∷ 0x0A ∷ 0x00 ∷ 0x00 ∷ 0x00
+    ∷ 0x07 ∷ 0x04 ∷ 0x01 ∷ 0x69
+    ∷ 0x0F ∷ 0x01 ∷ 0x01 ∷ 0x64 ∷ 0x78 ∷ 0x00
+    ∷ 0x07 ∷ 0x04 ∷ 0x01 ∷ 0x69 ∷ [])
+
+-- what its first 14 records stand for
+abbrev pub session-before : List Step
+session-before = (Split 120 ∷ Assign 0 (range 100 120) ∷ RequestGuard 0 (range 100 120) ∷ Deliver 2 ∷ Respond 2 ∷ Write 0 105 7 ∷ Write 0 106 8 ∷ Deliver 3 ∷ Deliver 4 ∷ Respond 3 ∷ Respond 4 ∷ Write 0 105 9 ∷ Read 0 106 ∷ Assign 1 (range 100 120) ∷ [])
+
+-- and those between the player's
+abbrev pub session-others : Others
+session-others = others (Split 100 ∷ Read 0 106 ∷ Lose 7 ∷ []) (Deliver 5 ∷ Assign 1 (range 120 130) ∷ []) (RestartTablet 105 ∷ Load 105 4 ∷ []) (Respond 5 ∷ Deliver 10 ∷ []) (RestartPlayer 0 ∷ []) (Assign 0 (range 100 300) ∷ Respond 10 ∷ [])
+
+-- and the last two
+abbrev pub session-after : List Step
+session-after = (Assign 1 (range 100 120) ∷ Read 1 105 ∷ [])
+
+-- it holds the records of the promise in this order
+pub session-holds :
+    let s = state-after fresh session-before in
+    steps first-read-session 16384 5460 ≡ session-before ++ (line s 1 (range 100 120) 105 session-others ++ session-after)
+unfolding state-after unbroken tablet-first tablet-end steps-from fields-length record-length fields map-of step-of tested begins
+session-holds = refl
+
+-- and all is there that is supposed
+pub session-supposed : let s = state-after fresh session-before in all (supposed s 1 (range 100 120) 105 session-others) ≡ true
+unfolding state-after unbroken tablet-first tablet-end
+session-supposed = refl
