@@ -1,15 +1,10 @@
 -- The promise holds of tables, of runs over session bytes and of any calls.
 -- Assumes nothing.
 use mathlib.Core.Path.{_≡_, refl, sym, ap, _∙_, subst}
-use mathlib.Core.Bool.{true, not}
+use mathlib.Core.Bool.{true}
 use mathlib.Core.List.{List, [], _∷_, _++_, append-nil}
 use Prim.Native.Nat.{ℕ}
-use borrow.Author.Tests.{leb-true, le-leb, le-ltb}
-use lib.Dec.{T, leb, ltb}
 use Rattle.store.specs.declared.Range.{Range}
-use Rattle.requests.specs.Region.{request-holds}
-use Rattle.requests.proofs.Basics.{is-true, and-left}
-use Rattle.requests.proofs.Rising.{each-at}
 use Rattle.players.specs.declared.Step.{Step}
 use Rattle.players.specs.Replies.{done}
 use Rattle.players.specs.Rules.{State, replies}
@@ -20,25 +15,14 @@ use Rattle.players.proofs.CheckLaws.{store-long, players-long}
 use Rattle.players.proofs.CallLaws.{passed, same-tables}
 use Rattle.players.proofs.PlayedLaws.{played-is, ok-after}
 use Rattle.linearizable.specs.Calls.{Call, a-run, all-steps, all-replies}
-use Rattle.linearizable.proofs.Tests.{and-true}
 use Rattle.linearizable.proofs.CallsTheorem.{all as all-calls}
-use Rattle.first_read.specs.Promise.{all, rules-used, Others, next, supposed}
+use Rattle.first_read.specs.Promise.{all, Others, next, supposed}
 use Rattle.first_read.specs.Lines.{line, told}
 use Rattle.first_read.specs.Calls.{Keeps, held-in, TablesPromise, Told, RunPromise, CallsPromise}
-use Rattle.first_read.proofs.Lists.{none-any}
-use Rattle.first_read.proofs.Ranges.{entries-all}
+use Rattle.first_read.proofs.FreshTheorem.{ok-rules}
 use Rattle.first_read.proofs.LineTheorem.{followed, joined, line-taken, line-theorem}
 
 -- ---- ‘In tables that keep the rules’
-
--- the rule that is used is one of theirs
-ok-rules : (s : State) (g : Range) → Ok s → all (rules-used s g) ≡ true
-unfolding request-holds
-ok-rules s g k =
-    let epochs = entries-all g (λ e. leb (s .owners .epoch e) (s .last)) (λ e w. le-leb (s .owners .epoch e) (s .last) (k .owners .epoch e)) in
-    let serials = none-any (λ r. ltb (s .last) (r .serial)) (s .requests)
-    (λ r i. le-ltb (s .last) (r .serial) (leb-true (r .serial) (s .last) (is-true (leb (r .serial) (s .last)) (and-left (leb (r .serial) (s .last)) _ (each-at (λ q. T (request-holds (s .last) q)) 0 (s .requests) (k .requests) r i))))) in
-    and-true _ _ epochs (and-true _ true (ap not serials) refl)
 
 module _ (u : Tables) (c : Keeps u) where
   -- they hold a state that is sound, and are its tables

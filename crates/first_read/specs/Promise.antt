@@ -11,8 +11,8 @@ use Rattle.requests.specs.Model.{any, by, serial-is}
 use Rattle.players.specs.declared.Step.{Step}
 use Rattle.players.specs.declared.Step.the-variants.{Assign, Release, RequestGuard, Read, Write, Deliver, Respond, Abandon, Lose, Split, Merge, RestartTablet, RestartPlayer, FindInterval, Load}
 use Rattle.players.specs.Replies.{issued, done, granted, store-read, cache-read, first-refusal}
-use Rattle.players.specs.Rules.{State, Result, players, all-entries, owns, step}
-use Rattle.players.specs.Played.{state-after}
+use Rattle.players.specs.Rules.{State, Result, fresh, players, all-entries, owns, step}
+use Rattle.players.specs.Played.{AllFit, state-after}
 
 -- all tests of a list hold
 abbrev pub all : List Bool → Bool
@@ -122,8 +122,11 @@ module _ (s : State) (p : ℕ) (g : Range) (e : ℕ) (o : Others) where
   read-answered = step (state-after (read-arrived .state) (o .before-read-answer)) (Respond read-serial)
 
   -- ‘the player's next step, if a read of that entry’
+  abbrev pub at-next : State
+  at-next = state-after (read-answered .state) (o .before-next)
+
   abbrev pub next : Result
-  next = step (state-after (read-answered .state) (o .before-next)) (Read p e)
+  next = step at-next (Read p e)
 
   -- ---- ‘Between these steps, and up to its next step’
 
@@ -161,3 +164,13 @@ module _ (s : State) (p : ℕ) (g : Range) (e : ℕ) (o : Others) where
 
   abbrev pub Promise : Type 0
   Promise = all (rules-used s g) ≡ true → all supposed ≡ true → FromMemory
+
+-- ---- from fresh tables on
+
+-- the numbers are what the store holds at that step, after any steps `before` (demand 3: ‘A read served from memory gave what the store held at that step’). Of other
+-- tables that keep the rules that is not said
+abbrev pub FreshPromise : List Step → ℕ → Range → ℕ → Others → Type 0
+FreshPromise before p g e o =
+    let s = state-after fresh before in
+    let t = at-next s p g e o .store in
+    AllFit before → all (supposed s p g e o) ≡ true → next s p g e o .reply ≡ cache-read (t .version e) (t .value e)
