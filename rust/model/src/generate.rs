@@ -449,11 +449,21 @@ fn any_window(rng: &mut Prng, state: &State) -> Range {
 /// A step of the kinds 1 up to this one for any state: the numbers are often those of the state.
 pub fn step_for(rng: &mut Prng, state: &State, kinds: u8) -> Step {
     let window = any_window(rng, state);
-    let mut profile = Profile {
+    one_step(kinds, window, WEIGHTS).next_step(rng, state)
+}
+
+/// A step of the kinds 1 up to this one, each as often as another, with entries of this window.
+pub fn step_in(rng: &mut Prng, state: &State, kinds: u8, window: Range) -> Step {
+    one_step(kinds, window, [1; KINDS as usize]).next_step(rng, state)
+}
+
+/// What a single step is drawn from.
+fn one_step(kinds: u8, window: Range, weights: [u32; KINDS as usize]) -> Profile {
+    Profile {
         kinds,
         players: PLAYERS as u8,
         window,
-        weights: WEIGHTS,
+        weights,
         whole: 5,
         by_owner: 80,
         steady: 50,
@@ -466,6 +476,5 @@ pub fn step_for(rng: &mut Prng, state: &State, kinds: u8) -> Step {
         longest_phase: 0,
         phase: Phase::NONE,
         previous: None,
-    };
-    profile.next_step(rng, state)
+    }
 }

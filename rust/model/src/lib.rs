@@ -1,6 +1,6 @@
 //! An independent model of document 01, "Guards, players and cached reads in a reel store", and of the
 //! requests of document 02 that are in force: §1, how far a guard reaches; §2, loading before opening;
-//! §4, trying a step first; §5, rows for everyone.
+//! §4, trying a step first; §5, rows for everyone; §6, the first read from memory.
 //!
 //! It is written from the text of the documents alone, so that the proved library can be compared
 //! with it: reply for reply, and word for word of both tables. Sentences of document 01 stand in
@@ -23,7 +23,9 @@ pub mod broken;
 pub mod claim;
 pub mod codec;
 pub mod faults;
+pub mod first_read;
 pub mod generate;
+pub mod interleavings;
 pub mod ledger;
 pub mod lent;
 pub mod listing;

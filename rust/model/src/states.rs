@@ -45,6 +45,11 @@ pub fn any_state(rng: &mut Prng) -> State {
         3 => MAX_SERIAL,
         _ => rng.below(MAX_SERIAL + 1),
     };
+    any_state_at(rng, last_serial)
+}
+
+/// Any such state with this last serial.
+pub fn any_state_at(rng: &mut Prng, last_serial: u32) -> State {
     let pool = serial_pool(rng, last_serial);
     let serial = |rng: &mut Prng| pool[rng.index(pool.len())];
     let mut state = State::fresh();

@@ -4,6 +4,7 @@ mod claim;
 mod codec;
 mod edges;
 mod faults;
+mod first_read;
 mod intervals;
 mod lent;
 mod listing;
