@@ -1,7 +1,8 @@
 //! Switches that make the model wrong, one at a time.
 //!
-//! They show that the checks see something: each fault changes what some list of steps gives, and
-//! most of them break demand 3 on some list. [`Fault::breaks_demand_3`] says which do not.
+//! They show that the checks see something: each fault changes what some list of steps gives. Some
+//! break demand 3 on some list, as [`Fault::breaks_demand_3`] says, and some the promise of the first read
+//! from memory, as [`Fault::breaks_first_read`] says.
 
 /// What the rules ask about faults. The right rules have none: see [`NoFault`].
 pub trait Switches {
@@ -186,11 +187,33 @@ pub enum Fault {
     FullSharesRefused,
     /// "given up or not": the test of the tables passes over requests that are given up.
     SharesOfPendingAlone,
+    /// A tablet restart clears the players' guards of its entries too, with their cells.
+    RestartTabletClearsHeld,
+    /// Steps 1 and 2 set the epoch of every entry.
+    AssignSetsEveryEpoch,
+    /// "overlapped if a write by this player on this entry waits": a read is, by any player's write.
+    AnyWriteOverlapsReads,
+    /// "31 a waiting guard request of this player shares an entry": of any player.
+    AnyGuardRequestShares,
+    /// Step 13 gives up the waiting requests of every player; guards and cells are cleared of its own alone.
+    RestartPlayerAbandonsAll,
+    /// Step 7 gives "not held" where the store no more has the guard at every entry of the range.
+    GrantAsksStore,
+    /// A read comes from memory only while the store has the guard at the entry.
+    MemoryReadAsksStore,
+    /// Step 6 clears the other players' guards where it sets one, with their cells.
+    SetGuardClearsOthers,
+    /// A boundary at a range's low divides it, but for entry 0.
+    BoundaryAtLowDivides,
+    /// Step 7 grants a guard for all entries of the range but the last.
+    GrantMissesLastEntry,
+    /// "last usable 4,000,000": it is never issued.
+    LastSerialUnused,
 }
 
 impl Fault {
     /// Every fault.
-    pub const ALL: [Fault; 73] = [
+    pub const ALL: [Fault; 84] = [
         Fault::ReadBesideWriteCached,
         Fault::LateGuardGranted,
         Fault::AbandonKeepsGuards,
@@ -264,6 +287,17 @@ impl Fault {
         Fault::SharesUntested,
         Fault::FullSharesRefused,
         Fault::SharesOfPendingAlone,
+        Fault::RestartTabletClearsHeld,
+        Fault::AssignSetsEveryEpoch,
+        Fault::AnyWriteOverlapsReads,
+        Fault::AnyGuardRequestShares,
+        Fault::RestartPlayerAbandonsAll,
+        Fault::GrantAsksStore,
+        Fault::MemoryReadAsksStore,
+        Fault::SetGuardClearsOthers,
+        Fault::BoundaryAtLowDivides,
+        Fault::GrantMissesLastEntry,
+        Fault::LastSerialUnused,
     ];
 
     /// Whether some list of steps breaks demand 3 with this fault. The others change replies or
@@ -296,8 +330,12 @@ impl Fault {
     ///   `AbandonedLoadClears`: less is remembered, which is the safe side.
     /// - `RestartPlayerAbandonsLoads`, `LoaderRestarts`: a load that is given up may still arrive, and
     ///   demand 3 asks no write to be answered.
-    /// - `AbandonedUncounted` and all after it: a step refused, or not refused, for want of a place changes
-    ///   nothing in the line, however many requests are in flight.
+    /// - `AbandonedUncounted` and those after it up to `SharesOfPendingAlone`: a step refused, or not refused,
+    ///   for want of a place changes nothing in the line, however many requests are in flight.
+    /// - `RestartTabletClearsHeld`, `AssignSetsEveryEpoch`, `AnyWriteOverlapsReads`, `GrantAsksStore`,
+    ///   `MemoryReadAsksStore`, `SetGuardClearsOthers`, `GrantMissesLastEntry`: fewer guards are held or live,
+    ///   or less is remembered, which is the safe side.
+    /// - `AnyGuardRequestShares`, `LastSerialUnused`: a refused step changes nothing in the line.
     pub fn breaks_demand_3(self) -> bool {
         !matches!(
             self,
@@ -346,6 +384,44 @@ impl Fault {
                 | Fault::SharesUntested
                 | Fault::FullSharesRefused
                 | Fault::SharesOfPendingAlone
+                | Fault::RestartTabletClearsHeld
+                | Fault::AssignSetsEveryEpoch
+                | Fault::AnyWriteOverlapsReads
+                | Fault::AnyGuardRequestShares
+                | Fault::GrantAsksStore
+                | Fault::MemoryReadAsksStore
+                | Fault::SetGuardClearsOthers
+                | Fault::GrantMissesLastEntry
+                | Fault::LastSerialUnused
+        )
+    }
+
+    /// Whether some interleaving breaks the promise of document 02 §6 with this fault: the player's guard or
+    /// its cell does not outlast what others may do, or its request finds no place or serial that is left. Most
+    /// faults that break demand 3 do not: it forbids to remember too much, and this one to remember too little.
+    pub fn breaks_first_read(self) -> bool {
+        matches!(
+            self,
+            Fault::NeverCaches
+                | Fault::LoadMarksRequests
+                | Fault::LoadOverlapsRequests
+                | Fault::LoadEmptiesCells
+                | Fault::LoadCached
+                | Fault::RejectedLoadClears
+                | Fault::AbandonedLoadClears
+                | Fault::AllTurnedAway
+                | Fault::NoShares
+                | Fault::RestartTabletClearsHeld
+                | Fault::AssignSetsEveryEpoch
+                | Fault::AnyWriteOverlapsReads
+                | Fault::AnyGuardRequestShares
+                | Fault::RestartPlayerAbandonsAll
+                | Fault::GrantAsksStore
+                | Fault::MemoryReadAsksStore
+                | Fault::SetGuardClearsOthers
+                | Fault::BoundaryAtLowDivides
+                | Fault::GrantMissesLastEntry
+                | Fault::LastSerialUnused
         )
     }
 }

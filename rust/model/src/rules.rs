@@ -60,8 +60,8 @@ fn perform(state: &mut State, step: Step, faults: &impl Switches) -> Result<Repl
     }
     test_numbers(step)?;
     match step {
-        Step::Assign { player, range } => set_owner(state, player, range),
-        Step::Release { range } => set_owner(state, NOBODY, range),
+        Step::Assign { player, range } => set_owner(state, player, range, faults),
+        Step::Release { range } => set_owner(state, NOBODY, range, faults),
         Step::RequestGuard { player, range } => request_guard(state, player, range, faults),
         Step::Read { player, entry } => read(state, player, entry, faults),
         Step::Write {
@@ -77,6 +77,10 @@ fn perform(state: &mut State, step: Step, faults: &impl Switches) -> Result<Repl
         Step::Merge { entry } => state.store.merge(entry).map(|()| Reply::DONE),
         Step::RestartTablet { entry } => {
             state.store.restart(entry, faults);
+            if faults.has(Fault::RestartTabletClearsHeld) {
+                let tablet = state.store.tablet(entry);
+                clear_all(state, tablet, |_| true);
+            }
             Ok(Reply::DONE)
         }
         Step::RestartPlayer { player } => Ok(restart_player(state, player, faults)),
@@ -100,8 +104,12 @@ fn is_player(player: u8) -> bool {
 }
 
 /// The serial that is issued next; "34 a serial is needed and none is left".
-fn next_serial(state: &State) -> Result<u32, Refusal> {
-    if state.last_serial >= MAX_SERIAL {
+fn next_serial(state: &State, faults: &impl Switches) -> Result<u32, Refusal> {
+    let last = match faults.has(Fault::LastSerialUnused) {
+        true => MAX_SERIAL - 1,
+        false => MAX_SERIAL,
+    };
+    if state.last_serial >= last {
         return Err(Refusal::SerialsSpent);
     }
     Ok(state.last_serial + 1)
@@ -111,7 +119,7 @@ fn next_serial(state: &State) -> Result<u32, Refusal> {
 /// it comes before 34.
 fn next_request(state: &State, sender: u8, faults: &impl Switches) -> Result<u32, Refusal> {
     if faults.has(Fault::SerialBeforePlace) && sender != LOADER {
-        next_serial(state)?;
+        next_serial(state, faults)?;
     }
     if shares::is_turned_away(&state.requests, sender, faults) {
         return Err(match faults.has(Fault::OldNumber) {
@@ -119,7 +127,7 @@ fn next_request(state: &State, sender: u8, faults: &impl Switches) -> Result<u32
             false => Refusal::NoPlaceLeft,
         });
     }
-    next_serial(state)
+    next_serial(state, faults)
 }
 
 /// Puts a new request last: its serial is the highest, so the serials keep rising.
@@ -135,11 +143,19 @@ fn send(state: &mut State, serial: u32, player: u8, operation: Operation) -> Rep
 }
 
 /// "1 assign, 2 release: take a serial, set owner (8 for release) and period over the range."
-fn set_owner(state: &mut State, owner: u8, range: Range) -> Result<Reply, Refusal> {
-    let serial = next_serial(state)?;
+fn set_owner(
+    state: &mut State,
+    owner: u8,
+    range: Range,
+    faults: &impl Switches,
+) -> Result<Reply, Refusal> {
+    let serial = next_serial(state, faults)?;
     state.last_serial = serial;
     state.owners[range.entries()].fill(owner);
     state.epochs[range.entries()].fill(serial);
+    if faults.has(Fault::AssignSetsEveryEpoch) {
+        state.epochs.fill(serial);
+    }
     Ok(Reply::new(code::ISSUED, serial, 0))
 }
 
@@ -164,6 +180,15 @@ fn clear(state: &mut State, player: u8, entry: usize) {
     state.cached[usize::from(player)][entry] = Cached::EMPTY;
 }
 
+/// For faults: clears the guards of these players at these entries.
+fn clear_all(state: &mut State, entries: std::ops::Range<usize>, players: impl Fn(u8) -> bool) {
+    for player in (0..PLAYERS as u8).filter(|&player| players(player)) {
+        for entry in entries.clone() {
+            clear(state, player, entry);
+        }
+    }
+}
+
 /// "every entry where the player has that guard is cleared". Reading 12: all 256 entries, owned
 /// or not, live or not.
 fn clear_guard(state: &mut State, player: u8, guard: u32) {
@@ -186,7 +211,7 @@ fn request_guard(
         return Err(Refusal::NotOwner);
     }
     let shares = |request: &Request| {
-        request.player == player
+        (request.player == player || faults.has(Fault::AnyGuardRequestShares))
             && request.is_pending()
             && matches!(request.operation, Operation::Guard { range: other, .. } if other.shares(range))
     };
@@ -231,7 +256,9 @@ fn read(
     let cached = state.cached[usize::from(player)][usize::from(entry)];
     let held = state.held[usize::from(player)][usize::from(entry)];
     let live = live_guard(state, player, entry, faults);
-    let usable = live.is_some() || faults.has(Fault::CacheHitIgnoresLiveness);
+    let is_replaced = state.store.guards[usize::from(entry)] != held;
+    let usable = (live.is_some() || faults.has(Fault::CacheHitIgnoresLiveness))
+        && !(is_replaced && faults.has(Fault::MemoryReadAsksStore));
     if cached.guard != 0 && cached.guard == held && usable {
         if faults.has(Fault::MemoryReadNeedsPlace)
             && shares::is_turned_away(&state.requests, player, faults)
@@ -241,7 +268,9 @@ fn read(
         return Ok(Reply::new(code::FROM_MEMORY, cached.version, cached.value));
     }
     let serial = next_request(state, player, faults)?;
-    let beside = write_pending(state, player, entry, faults);
+    let crosses = |r: &Request| !r.is_load() && r.is_pending() && r.writes(entry);
+    let beside = write_pending(state, player, entry, faults)
+        || faults.has(Fault::AnyWriteOverlapsReads) && state.requests.iter().any(crosses);
     let operation = Operation::Read {
         entry,
         guard: live.unwrap_or(0),
@@ -339,6 +368,9 @@ fn deliver(state: &mut State, serial: u32, faults: &impl Switches) -> Result<Rep
     match &mut request.operation {
         Operation::Guard { range, outcome } => {
             *outcome = Some(state.store.set_guard(*range, serial, faults));
+            if faults.has(Fault::SetGuardClearsOthers) && *outcome == Some(GuardOutcome::Set) {
+                clear_all(state, range.entries(), |player| player != request.player);
+            }
         }
         Operation::Read { entry, outcome, .. } => {
             let mut held = state.store.read(*entry);
@@ -441,13 +473,19 @@ fn respond_guard(
         .all(|&epoch| epoch < serial)
         || faults.has(Fault::LateGuardGranted)
         || faults.has(Fault::GrantIgnoresEpochs);
-    if !(owns(state, player, range) && current) {
+    let is_set = |entry: usize| state.store.guards[entry] == serial;
+    let replaced = faults.has(Fault::GrantAsksStore)
+        && outcome == GuardOutcome::Set
+        && !range.entries().all(is_set);
+    if !(owns(state, player, range) && current) || replaced {
         return Reply::new(code::NOT_HELD, serial, 0);
     }
     if outcome == GuardOutcome::LayoutChanged && !faults.has(Fault::GrantAfterLayoutChanged) {
         return Reply::new(code::LAYOUT_CHANGED, serial, 0);
     }
-    state.held[usize::from(player)][range.entries()].fill(serial);
+    let mut entries = range.entries();
+    entries.end -= usize::from(faults.has(Fault::GrantMissesLastEntry));
+    state.held[usize::from(player)][entries].fill(serial);
     Reply::new(code::GRANTED, serial, 0)
 }
 
@@ -543,7 +581,9 @@ fn give_up(state: &mut State, player: u8, faults: &impl Switches) {
             && faults.has(Fault::RestartPlayerKeepsWrites)
     };
     let its = |r: &Request| {
-        r.player == player || r.is_load() && faults.has(Fault::RestartPlayerAbandonsLoads)
+        r.player == player
+            || r.is_load() && faults.has(Fault::RestartPlayerAbandonsLoads)
+            || !r.is_load() && faults.has(Fault::RestartPlayerAbandonsAll)
     };
     let given_up = |r: &Request| its(r) && r.is_pending() && !kept(r);
     state
@@ -559,7 +599,7 @@ fn give_up(state: &mut State, player: u8, faults: &impl Switches) {
 fn find_interval(state: &mut State, entry: u8, faults: &impl Switches) -> Reply {
     let found = state.store.find_interval(entry, faults);
     if faults.has(Fault::IntervalTakesSerial) {
-        state.last_serial = next_serial(state).unwrap_or(MAX_SERIAL);
+        state.last_serial = next_serial(state, faults).unwrap_or(MAX_SERIAL);
     }
     Reply::new(code::INTERVAL, found.first as u32, found.last as u32)
 }
@@ -597,7 +637,7 @@ fn mistaken_test(state: &State, entry: u8, faults: &impl Switches) -> Result<(),
         return Err(Refusal::NoLiveGuard);
     }
     if faults.has(Fault::LoadSerialFirst) {
-        next_serial(state)?;
+        next_serial(state, faults)?;
     }
     Ok(())
 }

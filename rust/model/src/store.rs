@@ -135,7 +135,10 @@ impl Store {
     /// "Guard request: if the range lies in one tablet the guard is set over it, else the outcome
     /// is 'layout changed' and nothing is set."
     pub fn set_guard(&mut self, range: Range, guard: u32, faults: &impl Switches) -> GuardOutcome {
-        if self.in_one_tablet(range) || faults.has(Fault::GuardSetAcrossBoundary) {
+        let at_low = self.boundaries[usize::from(range.low)];
+        let divided = !self.in_one_tablet(range)
+            || at_low && range.low > 0 && faults.has(Fault::BoundaryAtLowDivides);
+        if !divided || faults.has(Fault::GuardSetAcrossBoundary) {
             self.guards[range.entries()].fill(guard);
             return GuardOutcome::Set;
         }

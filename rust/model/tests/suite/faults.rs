@@ -7,6 +7,7 @@ use model::claim::Sentence;
 use model::codec::session_text;
 use model::faults::{Fault, NoFault};
 use model::generate::Profile;
+use model::interleavings::Interleavings;
 use model::numbers::{BARRED, MAX_SERIAL};
 use model::prng::Prng;
 use model::rules::{step, step_with};
@@ -60,8 +61,8 @@ fn caught_by_comparison_only() {
     }
 }
 
-/// Only the store used alone shows the first two, only tables without a serial left the next two, and only the
-/// test of tables the last three.
+/// Only the store used alone shows the first two, only tables with no serial left, or one, the next three, and
+/// only the test of tables the last three.
 fn is_unseen_from_fresh(fault: Fault) -> bool {
     matches!(
         fault,
@@ -69,6 +70,7 @@ fn is_unseen_from_fresh(fault: Fault) -> bool {
             | Fault::IntervalWithoutGuard
             | Fault::LoadSerialFirst
             | Fault::SerialBeforePlace
+            | Fault::LastSerialUnused
             | Fault::SharesUntested
             | Fault::FullSharesRefused
             | Fault::SharesOfPendingAlone
@@ -81,7 +83,9 @@ fn is_unseen_from_fresh(fault: Fault) -> bool {
 #[test]
 fn crowded_lists_show_the_shares() {
     let all = Fault::ALL.into_iter();
-    let shares = all.skip_while(|&fault| fault != Fault::AbandonedUncounted);
+    let shares = all
+        .skip_while(|&fault| fault != Fault::AbandonedUncounted)
+        .take_while(|&fault| fault != Fault::SharesUntested);
     for fault in shares.filter(|&fault| !is_unseen_from_fresh(fault)) {
         let mut rng = Prng::new(seed());
         let (mut lists, mut others) = (0, 0);
@@ -120,6 +124,23 @@ fn differs_after(fault: Fault) -> Option<usize> {
         }
     }
     None
+}
+
+/// The faults that break the promise of the first read from memory, each with the number of random interleavings it
+/// took, at most 1,010 with the default seed; the others break it on none.
+#[test]
+fn caught_by_the_first_read() {
+    for fault in Fault::ALL {
+        let mut interleavings = Interleavings::new(seed(), KINDS);
+        if !fault.breaks_first_read() {
+            let found = interleavings.search(10_000 * scale(), &fault);
+            assert!(found.is_none(), "{fault:?}: {found:?}");
+            continue;
+        }
+        let found = interleavings.search(200_000, &fault);
+        let found = found.unwrap_or_else(|| panic!("{fault:?} is not caught"));
+        println!("{fault:?}: broken after {} interleavings", found.after);
+    }
 }
 
 /// What open and barred guards match at the store used alone, by hand: the tablet from 128 on is

@@ -2,7 +2,7 @@
 //! random interleavings.
 
 use calls::{Reply, Step, KINDS};
-use model::faults::NoFault;
+use model::faults::{Fault, NoFault};
 use model::first_read::{Exception, FirstRead, Played, Premise, Turn, GAPS, OWN_STEPS};
 use model::interleavings::Interleavings;
 use model::numbers::{Entries, COMMON_PLACES, MAX_SERIAL};
@@ -430,6 +430,163 @@ fn what_others_may_do() {
         let given = played(&owned(), FIRST, &in_gap(gap, &[split(45)]));
         assert_eq!(codes(&given), KEPT);
     }
+}
+
+/// Every fault that breaks the promise, on an interleaving that shows it: the player's codes with the fault; by the
+/// right rules the promise is kept.
+#[test]
+fn wrong_rules() {
+    let forgotten = [1, 0, 6, 1, 0, 3, 1];
+    let turned_away = [38, 32, 32, 38, 32, 32, 38];
+    let loaded = [owned(), vec![load(45, 5)]].concat();
+    let crowd = [owned(), vec![load(200, 5); COMMON_PLACES]].concat();
+    let others = [0, 1, 2, 4, 5, 6, 7].map(|player| vec![read(player, 200); 6]);
+    let full = [crowd.clone(), others.concat()].concat();
+    // Player 1's guard request waits on the entry, and its write.
+    let asked = vec![assign(1, 40, 60), ask(1, 45, 46), assign(3, 40, 60)];
+    let written = vec![
+        assign(1, 40, 60),
+        ask(1, 40, 60),
+        deliver(2),
+        respond(2),
+        write(1, 45, 7),
+        assign(3, 40, 60),
+    ];
+    let cases = [
+        (Fault::NeverCaches, owned(), quiet(), forgotten),
+        (
+            Fault::LoadMarksRequests,
+            owned(),
+            in_gap(3, &[load(45, 5)]),
+            forgotten,
+        ),
+        (
+            Fault::LoadOverlapsRequests,
+            loaded.clone(),
+            quiet(),
+            forgotten,
+        ),
+        (
+            Fault::LoadEmptiesCells,
+            owned(),
+            in_gap(5, &[load(45, 5)]),
+            forgotten,
+        ),
+        // The load is remembered before the first read, which then sends nothing.
+        (
+            Fault::LoadCached,
+            vec![load(45, 5), deliver(1), assign(3, 40, 60)],
+            in_gap(2, &[respond(1)]),
+            [1, 0, 6, 2, 32, 32, 2],
+        ),
+        (
+            Fault::RejectedLoadClears,
+            loaded,
+            in_gap(2, &[deliver(2), respond(2)]),
+            forgotten,
+        ),
+        (
+            Fault::AbandonedLoadClears,
+            owned(),
+            in_gap(5, &[load(45, 5), abandon(4)]),
+            forgotten,
+        ),
+        (Fault::AllTurnedAway, crowd, quiet(), turned_away),
+        // Others have 58 requests, and take the places that the player has of its own.
+        (
+            Fault::NoShares,
+            full,
+            in_gap(2, &[read(0, 200); 6]),
+            [1, 0, 6, 38, 32, 32, 38],
+        ),
+        (
+            Fault::RestartTabletClearsHeld,
+            owned(),
+            in_gap(2, &[restart_tablet(45)]),
+            forgotten,
+        ),
+        (
+            Fault::AssignSetsEveryEpoch,
+            owned(),
+            in_gap(1, &[assign(0, 100, 101)]),
+            [1, 0, 7, 1, 0, 3, 1],
+        ),
+        (Fault::AnyWriteOverlapsReads, written, quiet(), forgotten),
+        (
+            Fault::AnyGuardRequestShares,
+            asked.clone(),
+            quiet(),
+            [31, 32, 32, 1, 0, 3, 1],
+        ),
+        (
+            Fault::RestartPlayerAbandonsAll,
+            owned(),
+            in_gap(4, &[restart_player(1)]),
+            [1, 0, 6, 1, 0, 32, 1],
+        ),
+        (
+            Fault::GrantAsksStore,
+            owned(),
+            in_gap(1, &[restart_tablet(45)]),
+            [1, 0, 7, 1, 0, 3, 1],
+        ),
+        (
+            Fault::MemoryReadAsksStore,
+            owned(),
+            in_gap(5, &[restart_tablet(45)]),
+            forgotten,
+        ),
+        (
+            Fault::SetGuardClearsOthers,
+            asked,
+            in_gap(2, &[deliver(2)]),
+            forgotten,
+        ),
+        (
+            Fault::BoundaryAtLowDivides,
+            vec![assign(3, 40, 60), split(40)],
+            quiet(),
+            [1, 0, 8, 1, 0, 3, 1],
+        ),
+    ];
+    type Others = [Vec<Step>; GAPS];
+    let case = |fault: Fault, state: State, first: FirstRead, others: &Others, expected| {
+        assert!(fault.breaks_first_read());
+        let right = first.play_lists(&mut state.clone(), others, &NoFault);
+        assert_eq!((right.failing.len(), codes(&right)), (0, KEPT), "{fault:?}");
+        let wrong = first.play_lists(&mut state.clone(), others, &fault);
+        assert_eq!(
+            (wrong.failing.len(), codes(&wrong)),
+            (0, expected),
+            "{fault:?}"
+        );
+        fault
+    };
+    let mut tried: Vec<Fault> = Vec::new();
+    for (fault, start, others, expected) in cases {
+        tried.push(case(fault, state_after(&start), FIRST, &others, expected));
+    }
+    let last = FirstRead { entry: 59, ..FIRST };
+    let fault = Fault::GrantMissesLastEntry;
+    tried.push(case(
+        fault,
+        state_after(&owned()),
+        last,
+        &quiet(),
+        forgotten,
+    ));
+    let mut two_left = state_after(&owned());
+    two_left.last_serial = MAX_SERIAL - 2;
+    let spent = [1, 0, 6, 34, 32, 32, 34];
+    tried.push(case(
+        Fault::LastSerialUnused,
+        two_left,
+        FIRST,
+        &quiet(),
+        spent,
+    ));
+    let breaking = Fault::ALL.into_iter().filter(|f| f.breaks_first_read());
+    assert!(tried.into_iter().eq(breaking));
 }
 
 /// What random interleavings meet.
