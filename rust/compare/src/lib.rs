@@ -7,7 +7,7 @@
 //! | `case` | one case: start tables and what is called; how library and model differ on it |
 //! | `shrink` | a failing case made small, and printed as a session file |
 //! | `cells` | which replies each call can give, written down from the documents, and counts of them |
-//! | `situations`, `shares` | what else must occur: sorts of guards and guard intervals, loads, shares of places, broken tables, ends of previews |
+//! | `situations`, `shares`, `first_reads` | what else must occur: sorts of guards and guard intervals, loads, shares of places, first reads from memory, broken tables, ends of previews |
 //! | `suites` | the cases, in groups |
 //! | `wrong`, `wrong_previews` | libraries that are wrong in one point each, to show that the comparison sees it |
 
@@ -16,6 +16,7 @@
 
 pub mod case;
 pub mod cells;
+pub mod first_reads;
 pub mod oracle;
 pub mod shares;
 pub mod shrink;

@@ -1,5 +1,5 @@
 //! Situations that must occur, beside the replies: what kinds of guards, guard intervals, loads, shares of
-//! places and broken tables a call meets, and where the preview of a run ends.
+//! places, first reads from memory and broken tables a call meets, and where the preview of a run ends.
 
 use std::cmp::Ordering;
 
@@ -15,6 +15,7 @@ use model::store::{Store, WriteOutcome};
 use model::table_rules::TableRule;
 
 use crate::cells::{Call, FIND_INTERVAL, LOAD};
+use crate::first_reads::OnFirstRead;
 use crate::shares::OnShares;
 
 /// What a guard is, of an entry or carried.
@@ -310,6 +311,8 @@ pub enum Situation {
     Shares(OnShares),
     /// A table in which this crowd has so many common places: 16, which keeps the rules, or 17.
     Crowded(Crowd, usize),
+    /// An interleaving that ends in a read from memory.
+    FirstRead(OnFirstRead),
     /// The preview of a run that ends so.
     Preview(PreviewEnd),
     /// A table that breaks this rule alone.
@@ -348,6 +351,7 @@ impl Situation {
         for common in CROWDED {
             all.extend(Crowd::ALL.map(|crowd| Situation::Crowded(crowd, common)));
         }
+        all.extend(OnFirstRead::all().into_iter().map(Situation::FirstRead));
         all.extend(PreviewEnd::ALL.map(Situation::Preview));
         all.extend(TableRule::ALL.map(Situation::Broken));
         all.extend(SERIAL_RULES.map(Situation::BarredAs));
@@ -370,6 +374,7 @@ impl Situation {
     pub fn needs(self) -> u8 {
         match self {
             Situation::Outcome(call, _) | Situation::Interval(call, _) => call.needs(),
+            Situation::FirstRead(first) => first.needs(),
             Situation::Load(load) if load.is_sending() => LOAD,
             Situation::Shares(shares) if shares.is_of_loader() => LOAD,
             _ => 0,

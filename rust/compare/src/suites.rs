@@ -3,7 +3,9 @@
 use calls::{Fields, Library, Range, Request, Step, KINDS, MAPS};
 use model::broken::{self, bar, break_rule, damage, Crowd, SERIAL_RULES};
 use model::codec::{self, MARK, MAX_SESSION, RECORD_LENGTHS};
+use model::faults::NoFault;
 use model::generate::{any_step, step_for, Profile};
+use model::interleavings::Interleavings;
 use model::numbers::{BARRED, MAX_REQUESTS, MAX_SERIAL, OPEN, PLAYERS};
 use model::preview::MOST_RECORDS;
 use model::prng::Prng;
@@ -15,6 +17,7 @@ use model::tables::{self, tables_of, PLAYERS_WORDS, STORE_WORDS};
 
 use crate::case::{Act, Case, StoreCall};
 use crate::cells::{Counts, FIND_INTERVAL, LOAD};
+use crate::first_reads::OnFirstRead;
 use crate::shrink::{print, shrink};
 use crate::situations::{Situation, CROWDED};
 
@@ -205,7 +208,7 @@ pub fn run_to_failure<L: Library>(library: &L, plan: Plan, counts: &mut Counts) 
         .find(|outcome| outcome.failure.is_some())
 }
 
-fn groups<L: Library>() -> [(&'static str, Run<L>); 22] {
+fn groups<L: Library>() -> [(&'static str, Run<L>); 23] {
     [
         ("random sessions, step by step", sessions),
         ("near the last serial", late),
@@ -229,6 +232,7 @@ fn groups<L: Library>() -> [(&'static str, Run<L>); 22] {
         ("previews of runs around 16 records", previews),
         ("places taken by a few", crowds),
         ("tables with the common places taken", crowded_tables),
+        ("first reads from memory", first_reads),
     ]
 }
 
@@ -375,6 +379,24 @@ fn crowded_tables(group: &mut Group<impl Library>) {
                     return;
                 }
             }
+        }
+    }
+}
+
+/// A player's guard asked for, arrived and answered, an entry read, arrived and answered, and read again from
+/// memory, between others' steps, from any tables that meet the premises of document 02 §6.
+fn first_reads(group: &mut Group<impl Library>) {
+    let mut interleavings = Interleavings::new(group.rng.bits(), group.kinds);
+    for _ in 0..group.plan.share(10_000) {
+        let (first, start) = interleavings.start();
+        let played = interleavings.play(first, &mut start.clone(), &NoFault);
+        let found = OnFirstRead::of(&start, &played).into_iter();
+        group
+            .counts
+            .note_situations(found.map(Situation::FirstRead));
+        let steps = played.history.iter().map(|(_, event)| event.step);
+        if group.fails(case_from(&start, Act::Steps(steps.collect()))) {
+            return;
         }
     }
 }
