@@ -10,7 +10,7 @@ use crate::numbers::{Entries, ENTRIES, LOADER, MAX_SERIAL, PLAYERS};
 use crate::prng::Prng;
 use crate::rules;
 use crate::state::{Operation, State};
-use crate::states::any_state_at;
+use crate::states::{any_state_at, make_live};
 use crate::trial::{crowded_list, random_list};
 
 /// So many interleavings begin with the same tables, but for what the premises ask of them.
@@ -201,6 +201,7 @@ impl Interleavings {
                 player: [player, rng.below(9) as u8][rng.index(2)],
                 range: beside(rng, range),
             },
+            3 => by_owner(rng, range, state),
             _ => {
                 let window = match rng.below(5) {
                     0 => Range::new(entry, u16::from(entry) + 1),
@@ -282,6 +283,9 @@ fn settle(rng: &mut Prng, state: &mut State, first: FirstRead) {
         let guard = rng.below(state.last_serial + 1);
         state.held[other][range.entries()].fill(guard);
     }
+    if !range.contains(behind(range)) && state.last_serial > 0 && rng.chance(40) {
+        make_live(rng, state, usize::from(behind(range)));
+    }
 }
 
 /// Breaks a premise about the tables, or about what is asked for.
@@ -333,6 +337,31 @@ fn break_premise(
         _ => {}
     }
     first
+}
+
+/// The entry behind the range; behind entry 255 it is 0.
+fn behind(range: Range) -> u8 {
+    (usize::from(range.high) % ENTRIES) as u8
+}
+
+/// A write or a guard request of an entry's owner, mostly behind the range.
+fn by_owner(rng: &mut Prng, range: Range, state: &State) -> Step {
+    let entry = match rng.chance(80) {
+        true => behind(range),
+        false => rng.below(256) as u8,
+    };
+    let player = state.owners[usize::from(entry)];
+    match rng.chance(50) {
+        true => Step::Write {
+            player,
+            entry,
+            value: rng.word(),
+        },
+        false => Step::RequestGuard {
+            player,
+            range: Range::new(entry, u16::from(entry) + 1),
+        },
+    }
 }
 
 /// The range with an entry more at both ends, where there is one.

@@ -165,8 +165,8 @@ pub fn full_state() -> State {
     state
 }
 
-/// A player owns the entry, and its guard is live.
-fn make_live(rng: &mut Prng, state: &mut State, entry: usize) {
+/// A player owns the entry, and its guard is live; a serial is issued.
+pub(crate) fn make_live(rng: &mut Prng, state: &mut State, entry: usize) {
     let player = rng.below(PLAYERS as u32) as u8;
     let guard = rng.between(1, state.last_serial);
     state.owners[entry] = player;

@@ -127,7 +127,7 @@ fn differs_after(fault: Fault) -> Option<usize> {
 }
 
 /// The faults that break the promise of the first read from memory, each with the number of random interleavings it
-/// took, at most 1,010 with the default seed; the others break it on none.
+/// took, at most 109 with the default seed; the others break it on none.
 #[test]
 fn caught_by_the_first_read() {
     for fault in Fault::ALL {
