@@ -19,7 +19,7 @@ use Rattle.players.specs.Played.{state-after}
 use Rattle.players.proofs.StepCases.{ByCase, step-elim, step-stays}
 use Rattle.linearizable.proofs.Tests.{and-left, and-right, and-true, clash, bool-elim, cond-elim, put-elim}
 use Rattle.linearizable.proofs.RequestLists.{In, all-map, all-keep, all-append, any-none}
-use Rattle.first_read.specs.Promise.{overlap, own-request, disturbs, allowed, all-allowed}
+use Rattle.first_read.specs.Promise.{share-entry, own-request, disturbs, allowed, all-allowed}
 use Rattle.first_read.proofs.Lists.{keep-keep, keep-same, keep-append}
 use Rattle.first_read.proofs.Ranges.{In-range, from-low, below-high}
 
@@ -142,7 +142,7 @@ module _ (p : ℕ) (is-player : p < players) (g : Range) (own : ℕ → Bool) wh
 
   module _ (s : State) (c : Numbered s) where
     -- 1, 2: a range that has no entry of the player's
-    owner-after : (o : ℕ) (h : Range) → overlap g h ≡ false → After s (set-owner s o h .state)
+    owner-after : (o : ℕ) (h : Range) → share-entry g h ≡ false → After s (set-owner s o h .state)
     owner-after o h d =
         record {
           last = omega arith;

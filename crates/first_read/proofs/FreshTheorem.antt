@@ -65,10 +65,10 @@ pub fresh-theorem : (before : List Step) (p : ℕ) (g : Range) (e : ℕ) (o : Ot
 fresh-theorem before p g e o f h =
     let s = state-after fresh before in
     let i = after-keeps fresh before fresh-inv in
-    let i1 = after-keeps _ (o .before-arrival) (step-keeps s (RequestGuard p g) i) in
+    let i1 = after-keeps _ (o .before-delivery) (step-keeps s (RequestGuard p g) i) in
     let i2 = after-keeps _ (o .before-answer) (step-keeps _ (Deliver (guard-serial s p g e o)) i1) in
     let i3 = after-keeps _ (o .before-read) (step-keeps _ (Respond (guard-serial s p g e o)) i2) in
-    let i4 = after-keeps _ (o .before-read-arrival) (step-keeps _ (Read p e) i3) in
+    let i4 = after-keeps _ (o .before-read-delivery) (step-keeps _ (Read p e) i3) in
     let i5 = after-keeps _ (o .before-read-answer) (step-keeps _ (Deliver (read-serial s p g e o)) i4) in
     let i6 = after-keeps _ (o .before-next) (step-keeps _ (Respond (read-serial s p g e o)) i5) in
     held (at-next s p g e o) i6 p e (ap (λ r. r .code) (theorem s p g e o (ok-rules s g (ok-after fresh ok-fresh before f)) h .from-memory))

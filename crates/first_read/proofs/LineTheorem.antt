@@ -11,7 +11,7 @@ use Rattle.players.specs.declared.Step.the-variants.{RequestGuard, Read, Delive
 use Rattle.players.specs.Rules.{State, step, replies}
 use Rattle.players.specs.Played.{state-after}
 use Rattle.players.proofs.PlayedLaws.{replies-append, after-append}
-use Rattle.first_read.specs.Promise.{all, rules-used, Others, asked, guard-serial, arrived, answered, read, read-serial, read-arrived, read-answered, next, supposed}
+use Rattle.first_read.specs.Promise.{all, rules-used, Others, requested, guard-serial, delivered, answered, read, read-serial, read-delivered, read-answered, next, supposed}
 use Rattle.first_read.specs.Lines.{line, told, LinePromise}
 use Rattle.first_read.proofs.Theorem.{theorem}
 
@@ -52,12 +52,12 @@ line-taken s p g e o rules h =
     let t = theorem s p g e o rules h in
     let n = guard-serial s p g e o in
     let m = read-serial s p g e o in
-    first s (RequestGuard p g) _ _ _ _ (t .asking)
-    (then (asked s p g e o .state) (o .before-arrival) (Deliver n) _ _ _ _ (t .arriving)
-    (then (arrived s p g e o .state) (o .before-answer) (Respond n) _ _ _ _ (t .answering)
+    first s (RequestGuard p g) _ _ _ _ (t .requesting)
+    (then (requested s p g e o .state) (o .before-delivery) (Deliver n) _ _ _ _ (t .delivering)
+    (then (delivered s p g e o .state) (o .before-answer) (Respond n) _ _ _ _ (t .answering)
     (then (answered s p g e o .state) (o .before-read) (Read p e) _ _ _ _ (t .reading)
-    (then (read s p g e o .state) (o .before-read-arrival) (Deliver m) _ _ _ _ (t .read-arriving)
-    (then (read-arrived s p g e o .state) (o .before-read-answer) (Respond m) _ _ _ _ (t .read-answering)
+    (then (read s p g e o .state) (o .before-read-delivery) (Deliver m) _ _ _ _ (t .read-delivering)
+    (then (read-delivered s p g e o .state) (o .before-read-answer) (Respond m) _ _ _ _ (t .read-answering)
     (then (read-answered s p g e o .state) (o .before-next) (Read p e) [] _ [] _ (t .from-memory) (nothing (next s p g e o .state))))))))
 
 pub line-theorem : (s : State) (p : ℕ) (g : Range) (e : ℕ) (o : Others) → LinePromise s p g e o

@@ -147,30 +147,30 @@ module _ (p : ℕ) (is-player : p < players) (g : Range) where
 
   -- ---- the guard
 
-  -- the guard request n, and with outcome a
-  abbrev pub asking : ℕ → Request
-  asking n = new-request n p 3 (g .low) (g .high) 0 0 false
+  -- the guard request n
+  abbrev pub guard-request : ℕ → Request
+  guard-request n = new-request n p 3 (g .low) (g .high) 0 0 false
 
   -- ‘asked for’: 1
   module _ {pl : Player} (s : State) (f : Phase none [] pl (s .last + 1) s) (good : bad-range g ≡ false) (left : s .last < serials) where
-    asks : step s (RequestGuard p g) ≡ request-guard s p g
-    asks =
+    requests-it : step s (RequestGuard p g) ≡ request-guard s p g
+    requests-it =
         passed s (leb players p || bad-range g) out-of-range _ (rw (lt-leb players p is-player, good))
         ∙ passed s (not (all-entries (owns s p) (g .low) (g .high))) not-owner _ (ap not (entries-all g (owns s p) (is-owner s f)))
         ∙ passed s (any (requesting p g) (s .requests)) already-requested _ (none-any (requesting p g) (s .requests) (λ r i. let t = f .numbered .matched r i in rw t (third-fails (pending r) (is-guard-request r))))
         ∙ let-in s (f .numbered) left (request-guard s p g)
 
-    abbrev pub Asked : Result → Type 0
-    Asked x = (x .reply ≡ issued (x .reply .a)) × (x .reply .a ≢ 0) × Phase (only (x .reply .a)) (asking (x .reply .a) ∷ []) (cleared (g .low) (g .high) pl) (x .reply .a) (x .state)
+    abbrev pub Requested : Result → Type 0
+    Requested x = (x .reply ≡ issued (x .reply .a)) × (x .reply .a ≢ 0) × Phase (only (x .reply .a)) (guard-request (x .reply .a) ∷ []) (cleared (g .low) (g .high) pl) (x .reply .a) (x .state)
 
-    pub ask-step : Asked (step s (RequestGuard p g))
-    ask-step =
-        subst Asked (sym asks) (
+    pub request-step : Requested (step s (RequestGuard p g))
+    request-step =
+        subst Requested (sym requests-it) (
           refl,
           (λ z. omega arith),
           record {
-            numbered = added-numbered s (f .numbered) (asking (s .last + 1)) refl refl (request-guard s p g .state) refl refl;
-            requests = added-requests s (f .numbered) (asking (s .last + 1)) refl refl;
+            numbered = added-numbered s (f .numbered) (guard-request (s .last + 1)) refl refl (request-guard s p g .state) refl refl;
+            requests = added-requests s (f .numbered) (guard-request (s .last + 1)) refl refl;
             held = λ e w. ap (λ (x : Player). x .held e) player ∙ filled 0 (s .player p .held) (pl .held) e w;
             cached = λ e w. ap (λ (x : Player). x .cached e) player ∙ filled empty (s .player p .cached) (pl .cached) e w;
             owner = f .owner;
@@ -186,15 +186,15 @@ module _ (p : ℕ) (is-player : p < players) (g : Range) where
         filled a h k e w = cond-true (within (g .low) (g .high) e) a (h e) w ∙ sym (cond-true (within (g .low) (g .high) e) a (k e) w)
 
   -- ‘arrived’: 0, and the guard is set, as the range lies in one tablet still
-  pub arrive-step : {pl : Player} (n : ℕ) (s : State) → Phase (only n) (asking n ∷ []) pl n s → let x = step s (Deliver n) in (x .reply ≡ done) × Phase (only n) (mark-delivered 1 0 (asking n) ∷ []) pl n (x .state)
-  arrive-step {pl} n s f =
-      let set : Result = settled s (asking n) (guarded (s .store) (g .low) (g .high) n) 1 0 in
-      subst (λ (x : Result). (x .reply ≡ done) × Phase (only n) (mark-delivered 1 0 (asking n) ∷ []) pl n (x .state))
-      (sym (found s n (f .numbered) (asking n) (f .requests) Undelivered (deliver s) refl ∙ cond-true (one-tablet (s .store) (g .low) (g .high)) _ _ (undivided-one g (s .store) (f .undivided)))) (
+  pub deliver-step : {pl : Player} (n : ℕ) (s : State) → Phase (only n) (guard-request n ∷ []) pl n s → let x = step s (Deliver n) in (x .reply ≡ done) × Phase (only n) (mark-delivered 1 0 (guard-request n) ∷ []) pl n (x .state)
+  deliver-step {pl} n s f =
+      let set : Result = settled s (guard-request n) (guarded (s .store) (g .low) (g .high) n) 1 0 in
+      subst (λ (x : Result). (x .reply ≡ done) × Phase (only n) (mark-delivered 1 0 (guard-request n) ∷ []) pl n (x .state))
+      (sym (found s n (f .numbered) (guard-request n) (f .requests) Undelivered (deliver s) refl ∙ cond-true (one-tablet (s .store) (g .low) (g .high)) _ _ (undivided-one g (s .store) (f .undivided)))) (
         refl,
         record {
           numbered = delivered-numbered s n (f .numbered) 1 0 (set .state) refl refl;
-          requests = delivered-requests s n (f .numbered) 1 0 (asking n) (f .requests);
+          requests = delivered-requests s n (f .numbered) 1 0 (guard-request n) (f .requests);
           held = f .held;
           cached = f .cached;
           owner = f .owner;
@@ -208,9 +208,9 @@ module _ (p : ℕ) (is-player : p < players) (g : Range) where
   granted-to n pl = record { held = fill (g .low) (g .high) n (pl .held); cached = pl .cached }
 
   -- ‘and answered’: 6, as it owns the range still, with the epochs that were there at the asking
-  pub answer-step : {pl : Player} (n : ℕ) (s : State) → Phase (only n) (mark-delivered 1 0 (asking n) ∷ []) pl n s → let x = step s (Respond n) in (x .reply ≡ granted n) × Phase none [] (granted-to n pl) n (x .state)
+  pub answer-step : {pl : Player} (n : ℕ) (s : State) → Phase (only n) (mark-delivered 1 0 (guard-request n) ∷ []) pl n s → let x = step s (Respond n) in (x .reply ≡ granted n) × Phase none [] (granted-to n pl) n (x .state)
   answer-step {pl} n s f =
-      let r = mark-delivered 1 0 (asking n) in
+      let r = mark-delivered 1 0 (guard-request n) in
       let t = grant (removed s r) p (g .low) (g .high) n in
       let player : t .player p ≡ granted-to n (s .player p) = put-same p (granted-to n (s .player p)) (s .player) in
       subst (λ (x : Result). (x .reply ≡ granted n) × Phase none [] (granted-to n pl) n (x .state))
@@ -266,8 +266,8 @@ module _ (p : ℕ) (is-player : p < players) (g : Range) where
           )
 
     -- ‘arrived’: 0, and the outcome is what the store holds
-    pub read-arrive-step : {pl : Player} (m : ℕ) (s : State) → Phase (only m) (reading m ∷ []) pl n s → let x = step s (Deliver m) in (x .reply ≡ done) × Phase (only m) (mark-delivered (s .store .version e) (s .store .value e) (reading m) ∷ []) pl n (x .state)
-    read-arrive-step {pl} m s f =
+    pub read-deliver-step : {pl : Player} (m : ℕ) (s : State) → Phase (only m) (reading m ∷ []) pl n s → let x = step s (Deliver m) in (x .reply ≡ done) × Phase (only m) (mark-delivered (s .store .version e) (s .store .value e) (reading m) ∷ []) pl n (x .state)
+    read-deliver-step {pl} m s f =
         let a = s .store .version e in
         let b = s .store .value e in
         subst (λ (x : Result). (x .reply ≡ done) × Phase (only m) (mark-delivered a b (reading m) ∷ []) pl n (x .state)) (sym (found s m (f .numbered) (reading m) (f .requests) Undelivered (deliver s) refl)) (

@@ -17,12 +17,12 @@ use Rattle.players.specs.declared.Step.the-variants.{RequestGuard, Deliver, Res
 use Rattle.players.specs.Played.{state-after}
 use Rattle.linearizable.proofs.Tests.{and-left, and-right, clash, fill-in}
 use Rattle.linearizable.proofs.RequestLists.{In, any-none}
-use Rattle.first_read.specs.Promise.{all, rules-used, Others, asked, guard-serial, arrived, answered, at-read, read, read-serial, read-arrived, read-answered, supposed, FromMemory, Promise}
+use Rattle.first_read.specs.Promise.{all, rules-used, Others, requested, guard-serial, delivered, answered, at-read, read, read-serial, read-delivered, read-answered, supposed, FromMemory, Promise}
 use Rattle.first_read.proofs.Lists.{keep-nothing}
 use Rattle.first_read.proofs.Serials.{last-grows, all-grow}
 use Rattle.first_read.proofs.Ranges.{In-range, from-low, below-high, entries-at, one-undivided}
 use Rattle.first_read.proofs.Frame.{others-after}
-use Rattle.first_read.proofs.OwnSteps.{Phase, none, only, phase-after, ask-step, arrive-step, granted-to, answer-step, read-step, read-arrive-step, read-answer-step, next-step}
+use Rattle.first_read.proofs.OwnSteps.{Phase, none, only, phase-after, request-step, deliver-step, granted-to, answer-step, read-step, read-deliver-step, read-answer-step, next-step}
 
 -- each test of those that hold
 each : (bs : List Bool) → all bs ≡ true → (i : ℕ) → getD bs i true ≡ true
@@ -44,13 +44,13 @@ module _ (s : State) (p : ℕ) (g : Range) (e : ℕ) (o : Others) (rules : all (
   inside = at 5
 
   -- a serial is left at the asking, as one is left at the read
-  asking-left : s .last < serials
-  asking-left =
+  left-at-request : s .last < serials
+  left-at-request =
       let a = last-grows s (RequestGuard p g) in
-      let b = all-grow (asked s p g e o .state) (o .before-arrival) in
-      let c = last-grows (state-after (asked s p g e o .state) (o .before-arrival)) (Deliver (guard-serial s p g e o)) in
-      let d = all-grow (arrived s p g e o .state) (o .before-answer) in
-      let k = last-grows (state-after (arrived s p g e o .state) (o .before-answer)) (Respond (guard-serial s p g e o)) in
+      let b = all-grow (requested s p g e o .state) (o .before-delivery) in
+      let c = last-grows (state-after (requested s p g e o .state) (o .before-delivery)) (Deliver (guard-serial s p g e o)) in
+      let d = all-grow (delivered s p g e o .state) (o .before-answer) in
+      let k = last-grows (state-after (delivered s p g e o .state) (o .before-answer)) (Respond (guard-serial s p g e o)) in
       let l = all-grow (answered s p g e o .state) (o .before-read) in
       let m = ltb-true (at-read s p g e o .last) serials (at 12) in
       omega arith
@@ -89,21 +89,21 @@ module _ (s : State) (p : ℕ) (g : Range) (e : ℕ) (o : Others) (rules : all (
 
   pub kept : FromMemory s p g e o
   kept =
-      let x1 = ask-step p is-player g s first good asking-left in
+      let x1 = request-step p is-player g s first good left-at-request in
       let z = x1 .1 in
-      let f1 = phase-after p is-player g (x1 .2) (others-after p is-player g (only n) (asked s p g e o .state) (x1 .2 .numbered) (o .before-arrival) (at 6)) in
-      let x2 = arrive-step p is-player g n _ f1 in
-      let f2 = phase-after p is-player g (x2 .1) (others-after p is-player g (only n) (arrived s p g e o .state) (x2 .1 .numbered) (o .before-answer) (at 7)) in
+      let f1 = phase-after p is-player g (x1 .2) (others-after p is-player g (only n) (requested s p g e o .state) (x1 .2 .numbered) (o .before-delivery) (at 6)) in
+      let x2 = deliver-step p is-player g n _ f1 in
+      let f2 = phase-after p is-player g (x2 .1) (others-after p is-player g (only n) (delivered s p g e o .state) (x2 .1 .numbered) (o .before-answer) (at 7)) in
       let x3 = answer-step p is-player g n _ f2 in
       let f3 = phase-after p is-player g (x3 .1) (others-after p is-player g none (answered s p g e o .state) (x3 .1 .numbered) (o .before-read) (at 8)) in
       let x4 = read-step p is-player g e n inside z (at-read s p g e o) f3 (ltb-true (at-read s p g e o .last) serials (at 12)) held nothing in
-      let f4 = phase-after p is-player g (x4 .1) (others-after p is-player g (only m) (read s p g e o .state) (x4 .1 .numbered) (o .before-read-arrival) (at 9)) in
-      let x5 = read-arrive-step p is-player g e n inside z m _ f4 in
-      let f5 = phase-after p is-player g (x5 .1) (others-after p is-player g (only m) (read-arrived s p g e o .state) (x5 .1 .numbered) (o .before-read-answer) (at 10)) in
+      let f4 = phase-after p is-player g (x4 .1) (others-after p is-player g (only m) (read s p g e o .state) (x4 .1 .numbered) (o .before-read-delivery) (at 9)) in
+      let x5 = read-deliver-step p is-player g e n inside z m _ f4 in
+      let f5 = phase-after p is-player g (x5 .1) (others-after p is-player g (only m) (read-delivered s p g e o .state) (x5 .1 .numbered) (o .before-read-answer) (at 10)) in
       let x6 = read-answer-step p is-player g e n inside z m _ _ _ held f5 in
       let f6 = phase-after p is-player g (x6 .1) (others-after p is-player g none (read-answered s p g e o .state) (x6 .1 .numbered) (o .before-next) (at 11)) in
       let x7 = next-step p is-player g e n inside z guarded-player _ _ _ held f6 in
-      record { asking = x1 .0; arriving = x2 .0; answering = x3 .0; reading = x4 .0; read-arriving = x5 .0; read-answering = rw (x6 .0); from-memory = rw (x6 .0) x7 }
+      record { requesting = x1 .0; delivering = x2 .0; answering = x3 .0; reading = x4 .0; read-delivering = x5 .0; read-answering = rw (x6 .0); from-memory = rw (x6 .0) x7 }
 
 pub theorem : (s : State) (p : ℕ) (g : Range) (e : ℕ) (o : Others) → Promise s p g e o
 theorem s p g e o rules h = kept s p g e o rules h

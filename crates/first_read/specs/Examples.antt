@@ -20,7 +20,7 @@ use Rattle.session.specs.Layout.{fields-length, record-length, fields}
 use Rattle.session.specs.Records.{tested}
 use Rattle.session.specs.Mark.{mark, begins}
 use Rattle.session.specs.Runs.{steps-from, steps}
-use Rattle.first_read.specs.Promise.{all, rules-used, Others, asked, arrived, answered, read, read-arrived, read-answered, next, supposed}
+use Rattle.first_read.specs.Promise.{all, rules-used, Others, requested, delivered, answered, read, read-delivered, read-answered, next, supposed}
 use Rattle.first_read.specs.Lines.{line}
 
 -- ---- a case
@@ -48,7 +48,7 @@ missed c = failing 0 (rules-used (c .from) (c .range) ++ supposed (c .from) (c .
 abbrev replied : Case → List ℕ
 replied c =
     let of : (State → ℕ → Range → ℕ → Others → Result) → ℕ = λ f. f (c .from) (c .player) (c .range) (c .entry) (c .others) .reply .code in
-    of asked ∷ of arrived ∷ of answered ∷ of read ∷ of read-arrived ∷ of read-answered ∷ of next ∷ []
+    of requested ∷ of delivered ∷ of answered ∷ of read ∷ of read-delivered ∷ of read-answered ∷ of next ∷ []
 
 -- the case with both computed
 abbrev computed : Case → Case
@@ -81,8 +81,8 @@ no-request = 6
 abbrev entry-there : ℕ
 entry-there = 7
 
-abbrev up-to-arrival : ℕ
-up-to-arrival = 8
+abbrev up-to-delivery : ℕ
+up-to-delivery = 8
 
 abbrev up-to-answer : ℕ
 up-to-answer = 9
@@ -90,8 +90,8 @@ up-to-answer = 9
 abbrev up-to-read : ℕ
 up-to-read = 10
 
-abbrev up-to-read-arrival : ℕ
-up-to-read-arrival = 11
+abbrev up-to-read-delivery : ℕ
+up-to-read-delivery = 11
 
 abbrev up-to-read-answer : ℕ
 up-to-read-answer = 12
@@ -118,23 +118,23 @@ times zero xs = []
 times (suc n) xs = xs ++ times n xs
 
 -- k reads of player 0, abandoned, with the serials from n on
-abbrev given-up : ℕ → ℕ → List Step
-given-up zero n = []
-given-up (suc k) n = Read 0 45 ∷ Abandon n ∷ given-up k (suc n)
+abbrev abandoned-reads : ℕ → ℕ → List Step
+abandoned-reads zero n = []
+abandoned-reads (suc k) n = Read 0 45 ∷ Abandon n ∷ abandoned-reads k (suc n)
 
 -- ---- what others do
 
 abbrev others : List Step → List Step → List Step → List Step → List Step → List Step → Others
 others a b c d e f =
-    record { before-arrival = a; before-answer = b; before-read = c; before-read-arrival = d; before-read-answer = e; before-next = f }
+    record { before-delivery = a; before-answer = b; before-read = c; before-read-delivery = d; before-read-answer = e; before-next = f }
 
 -- nothing
 abbrev idle : Others
 idle = others [] [] [] [] [] []
 
 -- in one of the six places
-abbrev in-arrival : List Step → Others
-in-arrival xs = others xs [] [] [] [] []
+abbrev in-delivery : List Step → Others
+in-delivery xs = others xs [] [] [] [] []
 
 abbrev in-answer : List Step → Others
 in-answer xs = others [] xs [] [] [] []
@@ -142,8 +142,8 @@ in-answer xs = others [] xs [] [] [] []
 abbrev in-read : List Step → Others
 in-read xs = others [] [] xs [] [] []
 
-abbrev in-read-arrival : List Step → Others
-in-read-arrival xs = others [] [] [] xs [] []
+abbrev in-read-delivery : List Step → Others
+in-read-delivery xs = others [] [] [] xs [] []
 
 abbrev in-read-answer : List Step → Others
 in-read-answer xs = others [] [] [] [] xs []
@@ -171,7 +171,7 @@ kept-cases =
     -- loads, restarts of the tablet and of another player, boundaries at the range's low and high, entries beside it assigned and released, reads of others
     ∷ usual start (others (Load 45 9 ∷ RestartTablet 45 ∷ []) (RestartTablet 45 ∷ Merge 40 ∷ RestartPlayer 1 ∷ Deliver 3 ∷ []) (Split 60 ∷ Split 40 ∷ Release (range 60 61) ∷ FindInterval 45 ∷ []) (Load 45 8 ∷ Deliver 99 ∷ []) (Read 1 45 ∷ Assign 0 (range 30 40) ∷ []) (RestartTablet 45 ∷ Assign 0 (range 39 40) ∷ []))
     [] promised
-    -- the write of the owner before arrives after the guard, and is rejected; its first read is lost, and what else it asks for is refused
+    -- the write of the owner before is delivered after the guard, and is rejected; its first read is lost, and what else it asks for is refused
     ∷ usual taken-over (others (Read 1 45 ∷ []) (Deliver 3 ∷ []) (Respond 3 ∷ Abandon 4 ∷ Lose 4 ∷ []) (RestartPlayer 1 ∷ []) (Write 1 45 8 ∷ RequestGuard 1 (range 40 60) ∷ []) (Deliver 3 ∷ [])) [] promised
     -- another player gets entries beside the range, a guard there, and writes; a serial of it is above the player's
     ∷ usual start (others (Assign 2 (range 60 80) ∷ RequestGuard 2 (range 60 80) ∷ []) (Deliver 4 ∷ Respond 4 ∷ Write 2 70 5 ∷ []) (Deliver 5 ∷ Respond 5 ∷ []) (Write 2 60 6 ∷ Abandon 7 ∷ []) (RequestGuard 2 (range 60 61) ∷ Read 2 45 ∷ []) (Deliver 7 ∷ Deliver 8 ∷ Deliver 9 ∷ Respond 9 ∷ [])) [] promised
@@ -204,36 +204,36 @@ missing-cases =
     ∷ usual (after (Release (range 59 60) ∷ [])) idle (owner ∷ []) (29 ∷ 32 ∷ 32 ∷ 1 ∷ 0 ∷ 3 ∷ 1 ∷ [])
     -- ‘inside one tablet’: a boundary before entry 59
     ∷ usual (after (Split 59 ∷ [])) idle (in-one-tablet ∷ []) (1 ∷ 0 ∷ 8 ∷ 1 ∷ 0 ∷ 3 ∷ 1 ∷ [])
-    -- ‘has no row in flight’: a guard request for one entry; a write on the entry, which overlaps the read; six reads given up, where 16 loads take the common places
+    -- ‘has no row in flight’: a guard request for one entry; a write on the entry, which overlaps the read; six abandoned reads, where 16 loads take the common places
     ∷ usual (after (RequestGuard 0 (range 59 60) ∷ [])) idle (no-request ∷ []) (31 ∷ 32 ∷ 32 ∷ 1 ∷ 0 ∷ 3 ∷ 1 ∷ [])
     ∷ usual (after (RequestGuard 0 (range 40 60) ∷ Deliver 2 ∷ Respond 2 ∷ Write 0 45 7 ∷ [])) idle (no-request ∷ []) (1 ∷ 0 ∷ 6 ∷ 1 ∷ 0 ∷ 3 ∷ 1 ∷ [])
-    ∷ usual (after (given-up 6 2 ++ times 16 (Load 7 7 ∷ []))) idle (no-request ∷ []) (38 ∷ 32 ∷ 32 ∷ 38 ∷ 32 ∷ 32 ∷ 38 ∷ [])
+    ∷ usual (after (abandoned-reads 6 2 ++ times 16 (Load 7 7 ∷ []))) idle (no-request ∷ []) (38 ∷ 32 ∷ 32 ∷ 38 ∷ 32 ∷ 32 ∷ 38 ∷ [])
     -- ‘an entry there’: entry 60
     ∷ record { from = start; player = 0; range = range 40 60; entry = 60; others = idle; missing = entry-there ∷ []; codes = 1 ∷ 0 ∷ 6 ∷ 1 ∷ 0 ∷ 3 ∷ 1 ∷ [] }
     -- ‘assign … entries of the range’: to another, and to the player itself, each from where on it matters
-    ∷ usual start (in-arrival (Assign 1 (range 59 60) ∷ [])) (up-to-arrival ∷ []) (1 ∷ 0 ∷ 7 ∷ 1 ∷ 0 ∷ 3 ∷ 1 ∷ [])
+    ∷ usual start (in-delivery (Assign 1 (range 59 60) ∷ [])) (up-to-delivery ∷ []) (1 ∷ 0 ∷ 7 ∷ 1 ∷ 0 ∷ 3 ∷ 1 ∷ [])
     ∷ usual start (in-answer (Assign 0 (range 0 41) ∷ [])) (up-to-answer ∷ []) (1 ∷ 0 ∷ 7 ∷ 1 ∷ 0 ∷ 3 ∷ 1 ∷ [])
     ∷ usual start (in-read (Assign 0 (range 45 46) ∷ [])) (up-to-read ∷ []) (1 ∷ 0 ∷ 6 ∷ 1 ∷ 0 ∷ 3 ∷ 1 ∷ [])
     ∷ usual start (in-next (Assign 0 (range 45 46) ∷ [])) (up-to-next ∷ []) (1 ∷ 0 ∷ 6 ∷ 1 ∷ 0 ∷ 3 ∷ 1 ∷ [])
     -- ‘or release’
-    ∷ usual start (in-read-arrival (Release (range 40 60) ∷ [])) (up-to-read-arrival ∷ []) (1 ∷ 0 ∷ 6 ∷ 1 ∷ 0 ∷ 3 ∷ 1 ∷ [])
+    ∷ usual start (in-read-delivery (Release (range 40 60) ∷ [])) (up-to-read-delivery ∷ []) (1 ∷ 0 ∷ 6 ∷ 1 ∷ 0 ∷ 3 ∷ 1 ∷ [])
     ∷ usual start (in-read-answer (Release (range 45 46) ∷ [])) (up-to-read-answer ∷ []) (1 ∷ 0 ∷ 6 ∷ 1 ∷ 0 ∷ 3 ∷ 1 ∷ [])
     -- ‘put a border inside it’: at its second entry and at its last
-    ∷ usual start (in-arrival (Split 41 ∷ [])) (up-to-arrival ∷ []) (1 ∷ 0 ∷ 8 ∷ 1 ∷ 0 ∷ 3 ∷ 1 ∷ [])
-    ∷ usual start (in-arrival (Split 59 ∷ [])) (up-to-arrival ∷ []) (1 ∷ 0 ∷ 8 ∷ 1 ∷ 0 ∷ 3 ∷ 1 ∷ [])
-    -- ‘restart this player’: the request is given up, or leaves; the guard is cleared; what is cached, too
-    ∷ usual start (in-arrival (RestartPlayer 0 ∷ [])) (up-to-arrival ∷ []) (1 ∷ 0 ∷ 32 ∷ 1 ∷ 0 ∷ 3 ∷ 1 ∷ [])
+    ∷ usual start (in-delivery (Split 41 ∷ [])) (up-to-delivery ∷ []) (1 ∷ 0 ∷ 8 ∷ 1 ∷ 0 ∷ 3 ∷ 1 ∷ [])
+    ∷ usual start (in-delivery (Split 59 ∷ [])) (up-to-delivery ∷ []) (1 ∷ 0 ∷ 8 ∷ 1 ∷ 0 ∷ 3 ∷ 1 ∷ [])
+    -- ‘restart this player’: the request is abandoned, or leaves; the guard is cleared; what is cached, too
+    ∷ usual start (in-delivery (RestartPlayer 0 ∷ [])) (up-to-delivery ∷ []) (1 ∷ 0 ∷ 32 ∷ 1 ∷ 0 ∷ 3 ∷ 1 ∷ [])
     ∷ usual start (in-answer (RestartPlayer 0 ∷ [])) (up-to-answer ∷ []) (1 ∷ 0 ∷ 32 ∷ 1 ∷ 0 ∷ 3 ∷ 1 ∷ [])
     ∷ usual start (in-read (RestartPlayer 0 ∷ [])) (up-to-read ∷ []) (1 ∷ 0 ∷ 6 ∷ 1 ∷ 0 ∷ 3 ∷ 1 ∷ [])
     ∷ usual start (in-next (RestartPlayer 0 ∷ [])) (up-to-next ∷ []) (1 ∷ 0 ∷ 6 ∷ 1 ∷ 0 ∷ 3 ∷ 1 ∷ [])
-    -- ‘or take steps on its rows’: they arrive, are answered, are given up; given up and lost
-    ∷ usual start (in-arrival (Deliver 2 ∷ [])) (up-to-arrival ∷ []) (1 ∷ 32 ∷ 6 ∷ 1 ∷ 0 ∷ 3 ∷ 2 ∷ [])
+    -- ‘or take steps on its rows’: they are delivered, answered, abandoned; abandoned and lost
+    ∷ usual start (in-delivery (Deliver 2 ∷ [])) (up-to-delivery ∷ []) (1 ∷ 32 ∷ 6 ∷ 1 ∷ 0 ∷ 3 ∷ 2 ∷ [])
     ∷ usual start (in-answer (Respond 2 ∷ [])) (up-to-answer ∷ []) (1 ∷ 0 ∷ 32 ∷ 1 ∷ 0 ∷ 3 ∷ 2 ∷ [])
     ∷ usual start (in-read-answer (Abandon 3 ∷ [])) (up-to-read-answer ∷ []) (1 ∷ 0 ∷ 6 ∷ 1 ∷ 0 ∷ 32 ∷ 1 ∷ [])
-    ∷ usual start (in-arrival (Abandon 2 ∷ Lose 2 ∷ [])) (up-to-arrival ∷ []) (1 ∷ 32 ∷ 32 ∷ 1 ∷ 0 ∷ 3 ∷ 1 ∷ [])
+    ∷ usual start (in-delivery (Abandon 2 ∷ Lose 2 ∷ [])) (up-to-delivery ∷ []) (1 ∷ 32 ∷ 32 ∷ 1 ∷ 0 ∷ 3 ∷ 1 ∷ [])
     -- ‘takes just six steps’: a write of its own overlaps the read, or empties the cell; a guard request of its own clears the guard
     ∷ usual start (in-read (Write 0 45 7 ∷ [])) (up-to-read ∷ []) (1 ∷ 0 ∷ 6 ∷ 1 ∷ 0 ∷ 3 ∷ 1 ∷ [])
-    ∷ usual start (in-read-arrival (Write 0 45 7 ∷ [])) (up-to-read-arrival ∷ []) (1 ∷ 0 ∷ 6 ∷ 1 ∷ 0 ∷ 3 ∷ 1 ∷ [])
+    ∷ usual start (in-read-delivery (Write 0 45 7 ∷ [])) (up-to-read-delivery ∷ []) (1 ∷ 0 ∷ 6 ∷ 1 ∷ 0 ∷ 3 ∷ 1 ∷ [])
     ∷ usual start (in-next (Write 0 45 7 ∷ [])) (up-to-next ∷ []) (1 ∷ 0 ∷ 6 ∷ 1 ∷ 0 ∷ 3 ∷ 1 ∷ [])
     ∷ usual start (in-next (RequestGuard 0 (range 45 46) ∷ [])) (up-to-next ∷ []) (1 ∷ 0 ∷ 6 ∷ 1 ∷ 0 ∷ 3 ∷ 1 ∷ [])
     -- ‘A serial must be left at the asking’, ‘and at the first read’

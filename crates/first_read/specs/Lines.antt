@@ -11,17 +11,17 @@ use Rattle.players.specs.declared.Step.{Step}
 use Rattle.players.specs.declared.Step.the-variants.{RequestGuard, Read, Deliver, Respond}
 use Rattle.players.specs.Replies.{issued, done, granted, store-read, cache-read}
 use Rattle.players.specs.Rules.{State, replies}
-use Rattle.first_read.specs.Promise.{all, rules-used, Others, asked, guard-serial, arrived, answered, read, read-serial, read-arrived, read-answered, supposed}
+use Rattle.first_read.specs.Promise.{all, rules-used, Others, requested, guard-serial, delivered, answered, read, read-serial, read-delivered, read-answered, supposed}
 
 module _ (s : State) (p : ℕ) (g : Range) (e : ℕ) (o : Others) where
   -- ‘the guard asked for, arrived and answered, then an entry there read, arrived and answered’, and ‘the player's next step’
   abbrev pub line : List Step
   line =
       RequestGuard p g
-      ∷ (o .before-arrival ++ (Deliver (guard-serial s p g e o)
+      ∷ (o .before-delivery ++ (Deliver (guard-serial s p g e o)
       ∷ (o .before-answer ++ (Respond (guard-serial s p g e o)
       ∷ (o .before-read ++ (Read p e
-      ∷ (o .before-read-arrival ++ (Deliver (read-serial s p g e o)
+      ∷ (o .before-read-delivery ++ (Deliver (read-serial s p g e o)
       ∷ (o .before-read-answer ++ (Respond (read-serial s p g e o)
       ∷ (o .before-next ++ (Read p e
       ∷ []))))))))))))
@@ -32,11 +32,11 @@ module _ (s : State) (p : ℕ) (g : Range) (e : ℕ) (o : Others) where
       let a = read-answered s p g e o .reply .a in
       let b = read-answered s p g e o .reply .b in
       issued (guard-serial s p g e o)
-      ∷ (replies (asked s p g e o .state) (o .before-arrival) ++ (done
-      ∷ (replies (arrived s p g e o .state) (o .before-answer) ++ (granted (guard-serial s p g e o)
+      ∷ (replies (requested s p g e o .state) (o .before-delivery) ++ (done
+      ∷ (replies (delivered s p g e o .state) (o .before-answer) ++ (granted (guard-serial s p g e o)
       ∷ (replies (answered s p g e o .state) (o .before-read) ++ (issued (read-serial s p g e o)
-      ∷ (replies (read s p g e o .state) (o .before-read-arrival) ++ (done
-      ∷ (replies (read-arrived s p g e o .state) (o .before-read-answer) ++ (store-read a b
+      ∷ (replies (read s p g e o .state) (o .before-read-delivery) ++ (done
+      ∷ (replies (read-delivered s p g e o .state) (o .before-read-answer) ++ (store-read a b
       ∷ (replies (read-answered s p g e o .state) (o .before-next) ++ (cache-read a b
       ∷ []))))))))))))
 

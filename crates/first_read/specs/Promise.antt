@@ -44,8 +44,8 @@ ready s p g e =
 -- ---- ‘others may do anything but’
 
 -- the two ranges share an entry
-abbrev pub overlap : Range → Range → Bool
-overlap g h = ltb (g .low) (h .high) && ltb (h .low) (g .high)
+abbrev pub share-entry : Range → Range → Bool
+share-entry g h = ltb (g .low) (h .high) && ltb (h .low) (g .high)
 
 -- ‘its rows’: the serial is that of a request of the player in flight
 abbrev pub own-request : State → ℕ → ℕ → Bool
@@ -54,8 +54,8 @@ own-request s p n = any (λ r. by p r && serial-is n r) (s .requests)
 -- ‘assign or release entries of the range, put a border inside it, restart this player, or take steps on its rows’; and a step 3, 4 or 5 of the player is none of
 -- the others', as it ‘takes just six steps’
 abbrev pub disturbs : State → ℕ → Range → Step → Bool
-disturbs s p g (Assign q h) = overlap g h
-disturbs s p g (Release h) = overlap g h
+disturbs s p g (Assign q h) = share-entry g h
+disturbs s p g (Release h) = share-entry g h
 disturbs s p g (RequestGuard q h) = eqb q p
 disturbs s p g (Read q e) = eqb q p
 disturbs s p g (Write q e v) = eqb q p
@@ -81,10 +81,10 @@ all-allowed s p g (x ∷ xs) = allowed s p g x && all-allowed (step s x .state) 
 
 -- what others do ‘Between these steps, and up to its next step’
 pub record Others : Type 0 where
-  pub before-arrival : List Step
+  pub before-delivery : List Step
   pub before-answer : List Step
   pub before-read : List Step
-  pub before-read-arrival : List Step
+  pub before-read-delivery : List Step
   pub before-read-answer : List Step
   pub before-next : List Step
 
@@ -92,18 +92,18 @@ module _ (s : State) (p : ℕ) (g : Range) (e : ℕ) (o : Others) where
   -- ---- ‘and takes just six steps’, from the state s
 
   -- ‘the guard asked for’: the reply has the request's serial
-  abbrev pub asked : Result
-  asked = step s (RequestGuard p g)
+  abbrev pub requested : Result
+  requested = step s (RequestGuard p g)
 
   abbrev pub guard-serial : ℕ
-  guard-serial = asked .reply .a
+  guard-serial = requested .reply .a
 
   -- ‘arrived and answered’
-  abbrev pub arrived : Result
-  arrived = step (state-after (asked .state) (o .before-arrival)) (Deliver guard-serial)
+  abbrev pub delivered : Result
+  delivered = step (state-after (requested .state) (o .before-delivery)) (Deliver guard-serial)
 
   abbrev pub answered : Result
-  answered = step (state-after (arrived .state) (o .before-answer)) (Respond guard-serial)
+  answered = step (state-after (delivered .state) (o .before-answer)) (Respond guard-serial)
 
   -- ‘then an entry there read, arrived and answered’
   abbrev pub at-read : State
@@ -115,11 +115,11 @@ module _ (s : State) (p : ℕ) (g : Range) (e : ℕ) (o : Others) where
   abbrev pub read-serial : ℕ
   read-serial = read .reply .a
 
-  abbrev pub read-arrived : Result
-  read-arrived = step (state-after (read .state) (o .before-read-arrival)) (Deliver read-serial)
+  abbrev pub read-delivered : Result
+  read-delivered = step (state-after (read .state) (o .before-read-delivery)) (Deliver read-serial)
 
   abbrev pub read-answered : Result
-  read-answered = step (state-after (read-arrived .state) (o .before-read-answer)) (Respond read-serial)
+  read-answered = step (state-after (read-delivered .state) (o .before-read-answer)) (Respond read-serial)
 
   -- ‘the player's next step, if a read of that entry’
   abbrev pub at-next : State
@@ -132,11 +132,11 @@ module _ (s : State) (p : ℕ) (g : Range) (e : ℕ) (o : Others) where
 
   abbrev pub spared : List Bool
   spared =
-      all-allowed (asked .state) p g (o .before-arrival)
-      ∷ all-allowed (arrived .state) p g (o .before-answer)
+      all-allowed (requested .state) p g (o .before-delivery)
+      ∷ all-allowed (delivered .state) p g (o .before-answer)
       ∷ all-allowed (answered .state) p g (o .before-read)
-      ∷ all-allowed (read .state) p g (o .before-read-arrival)
-      ∷ all-allowed (read-arrived .state) p g (o .before-read-answer)
+      ∷ all-allowed (read .state) p g (o .before-read-delivery)
+      ∷ all-allowed (read-delivered .state) p g (o .before-read-answer)
       ∷ all-allowed (read-answered .state) p g (o .before-next)
       ∷ []
 
@@ -154,11 +154,11 @@ module _ (s : State) (p : ℕ) (g : Range) (e : ℕ) (o : Others) where
 
   -- ‘Each of the six is then accepted, and the player's next step, if a read of that entry, comes from memory’: with the numbers that the answer gave
   pub record FromMemory : Type 0 where
-    pub asking : asked .reply ≡ issued guard-serial
-    pub arriving : arrived .reply ≡ done
+    pub requesting : requested .reply ≡ issued guard-serial
+    pub delivering : delivered .reply ≡ done
     pub answering : answered .reply ≡ granted guard-serial
     pub reading : read .reply ≡ issued read-serial
-    pub read-arriving : read-arrived .reply ≡ done
+    pub read-delivering : read-delivered .reply ≡ done
     pub read-answering : read-answered .reply ≡ store-read (read-answered .reply .a) (read-answered .reply .b)
     pub from-memory : next .reply ≡ cache-read (read-answered .reply .a) (read-answered .reply .b)
 
