@@ -25,8 +25,8 @@ extern "C" {
 /* The version of this header, and of the library that it is for. */
 #define FAMDRIZE_VERSION_MAJOR 0
 #define FAMDRIZE_VERSION_MINOR 6
-#define FAMDRIZE_VERSION_PATCH 1
-#define FAMDRIZE_VERSION "0.6.1"
+#define FAMDRIZE_VERSION_PATCH 2
+#define FAMDRIZE_VERSION "0.6.2"
 
 /* Words of the two tables; places for requests in flight, and so of the lent list; the last serial that can be issued. */
 #define FAMDRIZE_STORE_WORDS 1280
