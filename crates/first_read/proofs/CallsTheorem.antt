@@ -1,14 +1,17 @@
 -- The promise holds of tables, of runs over session bytes and of any calls.
 -- Assumes nothing.
 use mathlib.Core.Path.{_≡_, refl, sym, ap, _∙_, subst}
-use mathlib.Core.Bool.{true}
+use mathlib.Core.Bool.{Bool, true, false}
 use mathlib.Core.List.{List, [], _∷_, _++_, append-nil}
 use Prim.Native.Nat.{ℕ}
+use native.Mathlib.Omega.{arith}
 use Rattle.store.specs.declared.Range.{Range}
+use Rattle.store.specs.declared.Reply.{Reply}
 use Rattle.players.specs.declared.Step.{Step}
 use Rattle.players.specs.Replies.{done}
 use Rattle.players.specs.Rules.{State, replies}
-use Rattle.players.specs.Calls.{Done}
+use Rattle.players.specs.Table.{valid}
+use Rattle.players.specs.Calls.{Done, whole}
 use Rattle.players.specs.Played.{AllFit, Tables, tables, tablesOf, state-after, played}
 use Rattle.players.proofs.Tables.{Ok, ok-tables}
 use Rattle.players.proofs.CheckLaws.{store-long, players-long}
@@ -42,6 +45,11 @@ fit-before : (xs ys : List Step) → AllFit (xs ++ ys) → AllFit xs
 fit-before [] ys f = tt
 fit-before (x ∷ xs) ys f = (f .0, fit-before xs ys (f .1))
 
+-- the code of the first reply
+abbrev first-code : List Reply → ℕ
+first-code [] = 0
+first-code (r ∷ rs) = r .code
+
 module _ (p : ℕ) (g : Range) (e : ℕ) (o : Others) where
   -- of a list of steps among which those of the promise stand
   among : (s : State) (before after : List Step) → Ok s → AllFit before → let s′ = state-after s before in
@@ -56,6 +64,16 @@ module _ (p : ℕ) (g : Range) (e : ℕ) (o : Others) where
       let s = held-in u in
       subst (λ (y : Tables). played (y .store) (y .players) (line s p g e o) ≡ told s p g e o) (same u c)
       (played-is s (held-ok u c) (line s p g e o) f ∙ line-theorem s p g e o (ok-rules s g (held-ok u c)) h)
+
+  -- that the tables keep the rules is needed, whatever else holds: where `check` refuses, so does the first call
+  pub tables-needed : (u : Tables) → (Keeps u → ⊥) → played (u .store) (u .players) (line (held-in u) p g e o) ≡ told (held-in u) p g e o → ⊥
+  unfolding played
+  tables-needed u refused h = by (whole (u .store) (u .players)) (valid (u .store) (u .players)) refl refl (ap first-code h)
+    where
+      by : (w v : Bool) → whole (u .store) (u .players) ≡ w → valid (u .store) (u .players) ≡ v → first-code (played (u .store) (u .players) (line (held-in u) p g e o)) ≡ 1 → ⊥
+      by true true w v k = refused (rw (w, v))
+      by true false w v k = let z : _≡_ {A = ℕ} 22 1 = rw (w, v) at k in omega arith
+      by false v w _ k = let z : _≡_ {A = ℕ} 21 1 = rw w at k in omega arith
 
   pub calls-theorem : (u : Tables) (cs : List Call) (before after : List Step) → CallsPromise p g e o u cs before after
   calls-theorem u cs before after c handed steps h =
