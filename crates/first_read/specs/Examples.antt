@@ -231,7 +231,9 @@ missing-cases =
     ∷ usual start (in-answer (Respond 2 ∷ [])) (up-to-answer ∷ []) (1 ∷ 0 ∷ 32 ∷ 1 ∷ 0 ∷ 3 ∷ 2 ∷ [])
     ∷ usual start (in-read-answer (Abandon 3 ∷ [])) (up-to-read-answer ∷ []) (1 ∷ 0 ∷ 6 ∷ 1 ∷ 0 ∷ 32 ∷ 1 ∷ [])
     ∷ usual start (in-delivery (Abandon 2 ∷ Lose 2 ∷ [])) (up-to-delivery ∷ []) (1 ∷ 32 ∷ 32 ∷ 1 ∷ 0 ∷ 3 ∷ 1 ∷ [])
-    -- ‘takes just six steps’: a write of its own overlaps the read, or empties the cell; a guard request of its own clears the guard
+    -- ‘takes just six steps’: a read of its own is answered before, so that the fourth step sends nothing; a write of its own overlaps the read, or empties the cell; a
+    -- guard request of its own clears the guard
+    ∷ usual start (in-read (Read 0 45 ∷ Deliver 3 ∷ Respond 3 ∷ [])) (up-to-read ∷ []) (1 ∷ 0 ∷ 6 ∷ 2 ∷ 32 ∷ 32 ∷ 2 ∷ [])
     ∷ usual start (in-read (Write 0 45 7 ∷ [])) (up-to-read ∷ []) (1 ∷ 0 ∷ 6 ∷ 1 ∷ 0 ∷ 3 ∷ 1 ∷ [])
     ∷ usual start (in-read-delivery (Write 0 45 7 ∷ [])) (up-to-read-delivery ∷ []) (1 ∷ 0 ∷ 6 ∷ 1 ∷ 0 ∷ 3 ∷ 1 ∷ [])
     ∷ usual start (in-next (Write 0 45 7 ∷ [])) (up-to-next ∷ []) (1 ∷ 0 ∷ 6 ∷ 1 ∷ 0 ∷ 3 ∷ 1 ∷ [])
