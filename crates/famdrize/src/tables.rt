@@ -1,11 +1,11 @@
-// The two tables: fresh, their test, and a step.
+// The two tables: fresh, their test, a step, and the share of reads from memory.
 use crate::Answer;
 use crate::Stated;
 use crate::given;
 use crate::refuse;
 use crate::step_fields;
 ghost use mathlib.Core.Path.{_≡_};
-ghost use Rattle.players.specs.Calls.{left, checked, made-fresh};
+ghost use Rattle.players.specs.Calls.{left, checked, made-fresh, shared};
 ghost use Rattle.famdrize.specs.Calls.{reply-of, stepped};
 ghost use Rattle.session.specs.Fields.{six};
 
@@ -44,4 +44,12 @@ pub extern "C" fn famdrize_step(
         Stated::Taken(next) => given(steps::step(store, players, next)),
         Stated::Refused(code) => refuse(code),
     }
+}
+
+// How many thousandths of the player's answered reads came from memory, and the remainder.
+#[no_mangle]
+pub extern "C" fn famdrize_share(store: &[u32], players: &[u32], player: u8) -> Answer
+    ensures { λ r. ⌜ reply-of r ≡ shared player (now (store .entry)) (now (players .entry)) ⌝ }
+{
+    given(players::share(store, players, player))
 }

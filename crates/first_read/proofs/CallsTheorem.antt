@@ -8,36 +8,19 @@ use native.Mathlib.Omega.{arith}
 use Rattle.store.specs.declared.Range.{Range}
 use Rattle.store.specs.declared.Reply.{Reply}
 use Rattle.players.specs.declared.Step.{Step}
-use Rattle.players.specs.Replies.{done}
 use Rattle.players.specs.Rules.{State, replies}
 use Rattle.players.specs.Table.{valid}
-use Rattle.players.specs.Calls.{Done, whole}
-use Rattle.players.specs.Played.{AllFit, Tables, tables, tablesOf, state-after, played}
-use Rattle.players.proofs.Tables.{Ok, ok-tables}
-use Rattle.players.proofs.CheckLaws.{store-long, players-long}
-use Rattle.players.proofs.CallLaws.{passed, same-tables}
-use Rattle.players.proofs.PlayedLaws.{played-is, ok-after}
+use Rattle.players.specs.Calls.{whole}
+use Rattle.players.specs.Played.{AllFit, Tables, Keeps, held-in, state-after, played}
+use Rattle.players.proofs.Tables.{Ok}
+use Rattle.players.proofs.PlayedLaws.{played-is, ok-after, held-ok, held-tables}
 use Rattle.linearizable.specs.Calls.{Call, a-run, all-steps, all-replies}
 use Rattle.linearizable.proofs.CallsTheorem.{all as all-calls}
 use Rattle.first_read.specs.Promise.{all, Others, next, supposed}
 use Rattle.first_read.specs.Lines.{line, told}
-use Rattle.first_read.specs.Calls.{Keeps, held-in, TablesPromise, Told, RunPromise, CallsPromise}
+use Rattle.first_read.specs.Calls.{TablesPromise, Told, RunPromise, CallsPromise}
 use Rattle.first_read.proofs.FreshTheorem.{ok-rules}
 use Rattle.first_read.proofs.LineTheorem.{followed, joined, line-taken, line-theorem}
-
--- ---- ‘In tables that keep the rules’
-
-module _ (u : Tables) (c : Keeps u) where
-  -- they hold a state that is sound, and are its tables
-  held-ok : Ok (held-in u)
-  held-ok =
-      let w = passed (u .store) (u .players) done (sym c) refl in
-      ok-tables (u .store) (u .players) (rw (w .1) tt) (store-long (u .store) (u .players) (w .0)) (players-long (u .store) (u .players) (w .0))
-
-  same : tablesOf (held-in u) ≡ u
-  same =
-      let w = passed (u .store) (u .players) done (sym c) refl in
-      ap (λ (d : Done). tables (d .store) (d .players)) (same-tables (u .store) (u .players) (w .0) (rw (w .1) tt) done)
 
 -- ---- the promise
 
@@ -62,7 +45,7 @@ module _ (p : ℕ) (g : Range) (e : ℕ) (o : Others) where
   pub tables-theorem : (u : Tables) → TablesPromise p g e o u
   tables-theorem u c f h =
       let s = held-in u in
-      subst (λ (y : Tables). played (y .store) (y .players) (line s p g e o) ≡ told s p g e o) (same u c)
+      subst (λ (y : Tables). played (y .store) (y .players) (line s p g e o) ≡ told s p g e o) (held-tables u c)
       (played-is s (held-ok u c) (line s p g e o) f ∙ line-theorem s p g e o (ok-rules s g (held-ok u c)) h)
 
   -- that the tables keep the rules is needed, whatever else holds: where `check` refuses, so does the first call
@@ -79,7 +62,7 @@ module _ (p : ℕ) (g : Range) (e : ℕ) (o : Others) where
   calls-theorem u cs before after c handed steps h =
       let s = held-in u in
       let a = all-calls s (held-ok u c) cs handed in
-      ap (λ (y : Tables). all-replies y cs) (sym (same u c)) ∙ a .replied ∙ ap (replies s) steps ∙ among s before after (held-ok u c) (fit-before before _ (subst AllFit steps (a .fit))) h
+      ap (λ (y : Tables). all-replies y cs) (sym (held-tables u c)) ∙ a .replied ∙ ap (replies s) steps ∙ among s before after (held-ok u c) (fit-before before _ (subst AllFit steps (a .fit))) h
 
   pub run-theorem : (u : Tables) (session : List ℕ) (budget : ℕ) (list : List ℕ) (before after : List Step) → RunPromise p g e o u session budget list before after
   unfolding all-steps all-replies

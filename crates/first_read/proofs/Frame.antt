@@ -14,7 +14,8 @@ use Rattle.requests.specs.declared.Request.{Request}
 use Rattle.requests.specs.Model.{any, keep, by, pending, is-guard-request, serial-is, drop-request, change-request, mark-delivered, mark-abandoned, mark-overlapped, using-entry, writing, new-request, loader}
 use Rattle.players.specs.declared.Step.{Step}
 use Rattle.players.specs.Replies.{first-refusal}
-use Rattle.players.specs.Rules.{State, Player, Result, step, players, nobody, live, with-requests, with-store, with-player, issue, set-owner, request-guard, write, settled, removed, set-boundary, restart-player, cleared, fresh-player, empty}
+use Rattle.counters.specs.declared.Counts.{Counts}
+use Rattle.players.specs.Rules.{State, Player, Result, step, players, nobody, live, with-requests, with-counters, with-store, with-player, issue, set-owner, request-guard, write, settled, removed, set-boundary, restart-player, cleared, fresh-player, empty}
 use Rattle.players.specs.Played.{state-after}
 use Rattle.players.proofs.StepCases.{ByCase, step-elim, step-stays}
 use Rattle.linearizable.proofs.Tests.{and-left, and-right, and-true, clash, bool-elim, cond-elim, put-elim}
@@ -81,6 +82,11 @@ module _ (p : ℕ) (is-player : p < players) (g : Range) (own : ℕ → Bool) wh
           requests = refl;
           numbered = same-numbers (with-player s q x) refl refl;
         }
+
+    -- the read counters
+    counters-after : (cs : ℕ → Counts) → After s (with-counters s cs)
+    counters-after cs =
+        record { last = omega arith; held = λ e w. refl; cached = λ e w. refl; owner = λ e w. refl; epoch = λ e w. refl; boundary = λ e a b h. h; requests = refl; numbered = same-numbers (with-counters s cs) refl refl }
 
     -- the store, where no boundary appears in the range
     store-after : (st : Store) → ((e : ℕ) → g .low < e → e < g .high → s .store .boundary e ≡ 0 → st .boundary e ≡ 0) → After s (with-store s st)
@@ -233,6 +239,10 @@ module _ (p : ℕ) (is-player : p < players) (g : Range) (own : ℕ → Bool) wh
           stored : (rs : List Request) → After s (with-requests s rs) → After s (with-requests (with-store s st) rs)
           stored rs x = after-then x (store-after (with-requests s rs) (x .numbered) st (λ e l h y. ap (λ f. f e) k ∙ y))
 
+    -- reads counted beside a change
+    counted-after : {t : State} → After s t → (cs : ℕ → Counts) → After s (with-counters t cs)
+    counted-after {t} a cs = after-then a (counters-after t (a .numbered) cs)
+
     -- every step
     after-cases : ByCase (λ x r. disturbs s p g x ≡ false → After s (r .state)) s
     after-cases =
@@ -241,7 +251,7 @@ module _ (p : ℕ) (is-player : p < players) (g : Range) (own : ℕ → Bool) wh
           assigned = λ q h _ _ _ d. owner-after q h d;
           released = λ h _ _ d. owner-after nobody h d;
           requested = λ q h _ _ _ _ d. guard-request-after q h d;
-          reads-cache = λ q e _ _. after-same s c;
+          reads-cache = λ q e _ _ _. counters-after s c _;
           reads-store = λ q e _ _ d. added-after s c (new-request (s .last + 1) q 4 e 0 0 (cond (live s q e) (s .player q .held e) 0) (any (writing q e) (s .requests))) refl d;
           writes = λ q e v _ _ _ d. write-after q e v d;
           set = λ r n w _ _ d. settled-after r n (w .member) (w .serial) d (guarded (s .store) (r .low) (r .high) (r .serial)) 1 0 refl;
@@ -252,8 +262,8 @@ module _ (p : ℕ) (is-player : p < players) (g : Range) (own : ℕ → Bool) wh
           granted = λ r n w _ _ _ d. with-player-after r n (w .member) (w .serial) d _ _ (gone-after r n (w .member) (w .serial) d);
           layout = λ r n w d. gone-after r n (w .member) (w .serial) d;
           not-held = λ r n w d. gone-after r n (w .member) (w .serial) d;
-          read-cached = λ r n w _ _ d. with-player-after r n (w .member) (w .serial) d _ _ (gone-after r n (w .member) (w .serial) d);
-          read-not-cached = λ r n w _ d. gone-after r n (w .member) (w .serial) d;
+          read-cached = λ r n w _ _ d. counted-after (with-player-after r n (w .member) (w .serial) d _ _ (gone-after r n (w .member) (w .serial) d)) _;
+          read-not-cached = λ r n w _ d. counted-after (gone-after r n (w .member) (w .serial) d) _;
           write-cached = λ r n w _ _ _ _ d. with-player-after r n (w .member) (w .serial) d _ _ (gone-after r n (w .member) (w .serial) d);
           write-not-cached = λ r n w _ _ _ d. gone-after r n (w .member) (w .serial) d;
           write-rejected = λ r n w _ _ _ _ d. with-player-after r n (w .member) (w .serial) d _ _ (gone-after r n (w .member) (w .serial) d);

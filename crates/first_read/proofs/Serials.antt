@@ -16,7 +16,7 @@ module _ (s : State) where
         assigned = λ p g _ _ _. omega arith;
         released = λ g _ _. omega arith;
         requested = λ p g _ _ _ _. omega arith;
-        reads-cache = λ p e _. omega arith;
+        reads-cache = λ p e _ _. omega arith;
         reads-store = λ p e _ _. omega arith;
         writes = λ p e v _ _ _. omega arith;
         set = λ r n _ _ _. omega arith;

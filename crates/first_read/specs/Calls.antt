@@ -8,11 +8,8 @@ use Prim.Native.Nat.{ℕ}
 use Rattle.store.specs.declared.Reply.{Reply}
 use Rattle.store.specs.declared.Range.{Range}
 use Rattle.players.specs.declared.Step.{Step}
-use Rattle.players.specs.Replies.{done}
 use Rattle.players.specs.Rules.{State, replies}
-use Rattle.players.specs.Table.{stateOf}
-use Rattle.players.specs.Calls.{checked}
-use Rattle.players.specs.Played.{AllFit, Tables, state-after, played}
+use Rattle.players.specs.Played.{AllFit, Tables, Keeps, held-in, state-after, played}
 use Rattle.session.specs.Records.{Bytes}
 use Rattle.session.specs.Runs.{steps, whole-places}
 use Rattle.steps.specs.RunCalls.{ran, replies-from}
@@ -20,16 +17,8 @@ use Rattle.linearizable.specs.Calls.{Call, AllHanded, all-steps, all-replies}
 use Rattle.first_read.specs.Promise.{all, Others, next, supposed}
 use Rattle.first_read.specs.Lines.{line, told}
 
--- ‘In tables that keep the rules’
-abbrev pub Keeps : Tables → Type 0
-Keeps u = checked (u .store) (u .players) ≡ done
-
--- what two tables hold
-abbrev pub held-in : Tables → State
-held-in u = stateOf (u .store) (u .players)
-
 module _ (p : ℕ) (g : Range) (e : ℕ) (o : Others) where
-  -- of calls of `steps::step`, each on the tables that the last one left. As in the claim about tables of crate linearizable, the entries of steps fit their width
+  -- ‘In tables that keep the rules’ (`Keeps`): of calls of `steps::step`, each on the tables that the last one left. As in the claim about tables of crate linearizable, the entries of steps fit their width
   abbrev pub TablesPromise : Tables → Type 0
   TablesPromise u =
       let s = held-in u in

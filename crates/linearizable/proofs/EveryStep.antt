@@ -12,8 +12,9 @@ use Rattle.players.specs.Rules.{State, removed, set-boundary, step, nobody}
 use Rattle.players.proofs.StepCases.{ByCase, step-elim}
 use Rattle.linearizable.specs.Ledger.{Event, Ledger}
 use Rattle.linearizable.proofs.Invariant.{Inv}
-use Rattle.linearizable.proofs.KeptByStep.{Keeps, owner-keeps, guard-request-keeps, read-keeps, write-keeps, set-keeps, no-effect-keeps, fetched-keeps, commit-keeps, is-write-kind, granted-keeps, removed-keeps, cache-keeps, drop-guard-keeps, write-marked-keeps, marked-keeps, store-keeps, tablet-keeps, restart-keeps, load-keeps}
+use Rattle.linearizable.proofs.KeptByStep.{Keeps, counters-keep, owner-keeps, guard-request-keeps, read-keeps, write-keeps, set-keeps, no-effect-keeps, fetched-keeps, commit-keeps, is-write-kind, granted-keeps, removed-keeps, cache-keeps, drop-guard-keeps, write-marked-keeps, marked-keeps, store-keeps, tablet-keeps, restart-keeps, load-keeps}
 use Rattle.linearizable.proofs.Simulation.{Sim}
+use Rattle.linearizable.proofs.Moves.{counters-move}
 use Rattle.linearizable.proofs.StepMoves.{Goal, unaltered, refused, owned, request-begins, cache-read-begins, read-begins, write-begins, guard-set, guard-not-set, read-delivered, write-committed-now, write-rejected-now, grants, leaves, answers, cached-guards, read-answered, committed-answered, rejected-answered, dropped-guards, marks, store-changes, player-restarts, load-begins}
 
 -- ---- the invariant
@@ -25,7 +26,7 @@ kept-cases s i =
       assigned = λ p g _ _ _. owner-keeps s i p g;
       released = λ g _ _. owner-keeps s i nobody g;
       requested = λ p g _ _ _ t. guard-request-keeps s i p g t;
-      reads-cache = λ p e h. i;
+      reads-cache = λ p e _ h. counters-keep s i _;
       reads-store = λ p e lt _. read-keeps s i p e lt;
       writes = λ p e v lt _ l. write-keeps s i p e v lt l;
       set = λ r n w k t. set-keeps s i r n w k;
@@ -36,8 +37,8 @@ kept-cases s i =
       granted = λ r n w k h o. granted-keeps s i r n w k h o;
       layout = λ r n _. removed-keeps s i r;
       not-held = λ r n _. removed-keeps s i r;
-      read-cached = λ r n w k v. cache-keeps s i r n w (r .first) (r .second) (omega arith) v (λ y. (y .read-version k, y .read-value k));
-      read-not-cached = λ r n w k. removed-keeps s i r;
+      read-cached = λ r n w k v. counters-keep _ (cache-keeps s i r n w (r .first) (r .second) (omega arith) v (λ y. (y .read-version k, y .read-value k))) _;
+      read-not-cached = λ r n w k. counters-keep _ (removed-keeps s i r) _;
       write-cached = λ r n w a b o v. let k = is-write-kind s i r (w .member) a b in cache-keeps s i r n w (r .serial) (r .value) a v (λ y. (y .write-version k o, y .write-value k o));
       write-not-cached = λ r n w a b o. removed-keeps s i r;
       write-rejected = λ r n w a b o _. drop-guard-keeps (removed s r) (removed-keeps s i r) (r .player) (r .guard);
@@ -68,7 +69,7 @@ module _ {h : List Event} {s : State} {l : Ledger} (sim : Sim h s l) (inv : Inv 
         assigned = λ p g _ _ _. owned sim inv (Assign p g) p g refl refl;
         released = λ g _ _. owned sim inv (Release g) nobody g refl refl;
         requested = λ p g _ _ _ t. request-begins sim inv p g;
-        reads-cache = cache-read-begins sim inv;
+        reads-cache = λ p e _ t. counters-move (cache-read-begins sim inv p e t) _;
         reads-store = λ p e _ _. read-begins sim inv p e;
         writes = λ p e v _ _ l. write-begins sim inv p e v l;
         set = guard-set sim inv;
@@ -79,8 +80,8 @@ module _ {h : List Event} {s : State} {l : Ledger} (sim : Sim h s l) (inv : Inv 
         granted = λ r n w k h o. grants sim inv r n w k o;
         layout = λ r n _. leaves sim inv _ r (s .player) (λ p e. inl refl) refl refl;
         not-held = λ r n _. leaves sim inv _ r (s .player) (λ p e. inl refl) refl refl;
-        read-cached = λ r n w k v. answers sim inv r n w _ _ (cached-guards sim inv r n w _) refl (read-answered sim inv r n w k);
-        read-not-cached = λ r n w k. answers sim inv r n w _ (s .player) (λ p e. inl refl) refl (read-answered sim inv r n w k);
+        read-cached = λ r n w k v. counters-move (answers sim inv r n w _ _ (cached-guards sim inv r n w _) refl (read-answered sim inv r n w k)) _;
+        read-not-cached = λ r n w k. counters-move (answers sim inv r n w _ (s .player) (λ p e. inl refl) refl (read-answered sim inv r n w k)) _;
         write-cached = λ r n w a b o v. answers sim inv r n w _ _ (cached-guards sim inv r n w _) refl (committed-answered sim inv r n w a b o);
         write-not-cached = λ r n w a b o. answers sim inv r n w _ (s .player) (λ p e. inl refl) refl (committed-answered sim inv r n w a b o);
         write-rejected = λ r n w a b o _. answers sim inv r n w _ _ (dropped-guards sim inv (r .player) (r .guard)) refl (rejected-answered sim inv r n w a b o);

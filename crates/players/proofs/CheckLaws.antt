@@ -18,6 +18,7 @@ use Rattle.store.specs.declared.Reply.{Reply}
 use Rattle.store.proofs.Bits.{none-gathered, above-none}
 use Rattle.store.proofs.Turns.{drop-next}
 use Rattle.requests.specs.Region.{valid as valid-requests}
+use Rattle.counters.specs.Region.{valid as valid-counters}
 use Rattle.requests.proofs.Basics.{decide, both-left, both-right, cond-elim}
 use Rattle.players.specs.Replies.{refusal}
 use Rattle.players.specs.Rules.{fresh}
@@ -92,7 +93,8 @@ module _ (t : List ℕ) where
       && (at-most (getD t 0 0) (take 256 (drop 257 t))
       && (at-most (getD t 0 0) (take 2048 (drop 513 t))
       && (cached-all (getD t 0 0) (take 2048 (drop 2561 t)) (take 2048 (drop 4609 t)) (take 2048 (drop 6657 t))
-      && valid-requests (getD t 0 0) (take 768 (drop 8705 t)))))))
+      && (valid-requests (getD t 0 0) (take 768 (drop 8705 t))
+      && valid-counters (take 16 (drop 9473 t))))))))
   unfolding valid-players region
   table-is = refl
 
@@ -118,8 +120,12 @@ module _ (t : List ℕ) where
           pub table-values : values ≡ false → false ≡ valid-players t
           table-values v = rw (table-is, le-leb (getD t 0 0) 4000000 h, o, e, g, v)
 
-          pub table-rest : (b : Bool) → values ≡ true → b ≡ valid-requests (getD t 0 0) (take 768 (drop 8705 t)) → b ≡ valid-players t
-          table-rest b v r = rw (table-is, le-leb (getD t 0 0) 4000000 h, o, e, g, v) r
+          module _ (v : values ≡ true) where
+            pub table-requests : valid-requests (getD t 0 0) (take 768 (drop 8705 t)) ≡ false → false ≡ valid-players t
+            table-requests r = rw (table-is, le-leb (getD t 0 0) 4000000 h, o, e, g, v, r)
+
+            pub table-counters : valid-requests (getD t 0 0) (take 768 (drop 8705 t)) ≡ true → (b : Bool) → b ≡ valid-counters (take 16 (drop 9473 t)) → b ≡ valid-players t
+            table-counters r b c = rw (table-is, le-leb (getD t 0 0) 4000000 h, o, e, g, v, r) c
 
 -- ---- both tables
 

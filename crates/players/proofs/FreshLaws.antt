@@ -9,6 +9,7 @@ use lib.Seq.{take-all, take-at, drop-at, length-take-le}
 use borrow.Rule.Slice.PartMut.{putMid}
 use Rattle.store.specs.Table.{listed}
 use Rattle.requests.specs.Region.{placed}
+use Rattle.counters.specs.Region.{words-from, regionOf as counter-region}
 use Rattle.players.specs.Rules.{fresh}
 use Rattle.players.specs.Regions.{total, joined}
 use Rattle.players.specs.Table.{widths, players-words, the-epochs, tableOf}
@@ -59,7 +60,7 @@ rest = total (drop the-epochs widths)
 
 -- all regions but the owners are zeros
 fresh-table : tableOf fresh ≡ 0 ∷ (replicate 256 8 ++ replicate rest 0)
-unfolding tableOf placed
+unfolding tableOf placed words-from counter-region
 fresh-table =
     rw (listed-const 8 0 256, listed-const 0 0 256, listed-const 0 0 2048)
     (ap (λ (l : List ℕ). 0 ∷ (replicate 256 8 ++ l)) (joined-zeros (drop the-epochs widths)))

@@ -9,6 +9,7 @@ pub mod Kept
 pub mod StepCases
 pub mod KindLaws
 pub mod CallLaws
+pub mod ReadShareLaws
 pub mod IntervalLaws
 pub mod LoadLaws
 pub mod ShareLaws

@@ -50,7 +50,7 @@ module _ (s : State) where
         assigned = λ p g h q l k. k;
         released = λ g q l k. k;
         requested = λ p g h q w v k. appended-shares (s .requests) (s .requests) _ (λ _. refl) k (w .place);
-        reads-cache = λ p e h k. k;
+        reads-cache = λ p e _ h k. k;
         reads-store = λ p e h w k. appended-shares (s .requests) (s .requests) _ (λ _. refl) k (w .place);
         writes = λ p e v h w l k. appended-shares (s .requests) (map (λ r. cond (using-entry p e r) (mark-overlapped r) r) (s .requests)) _ (choice-count (using-entry p e) mark-overlapped (λ _. refl) (s .requests)) k (w .place);
         set = λ r n w z t. arrived r 1 0;

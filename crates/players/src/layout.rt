@@ -21,7 +21,11 @@ pub const REQUESTS: usize = CACHED_VALUES + CELLS;
 
 pub const REQUESTS_END: usize = REQUESTS + requests::layout::WORDS;
 
-pub const WORDS: usize = REQUESTS_END;
+pub const COUNTERS: usize = REQUESTS_END;
+
+pub const COUNTERS_END: usize = COUNTERS + counters::layout::WORDS;
+
+pub const WORDS: usize = COUNTERS_END;
 
 // The words of a region with one for each player and entry.
 pub const CELLS: usize = 2048;

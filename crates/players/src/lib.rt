@@ -1,4 +1,4 @@
-// The players: ownership, held guards, cached values and requests in flight, in one lent table of 9,473 words beside the store's.
+// The players: ownership, held guards, cached values, requests in flight and read counters, in one lent table of 9,489 words beside the store's.
 // Each call tests the two tables' lengths (21) and their rules (22) first.
 mod initial;
 pub mod layout;
@@ -10,7 +10,7 @@ use store::codes;
 use store::done;
 use store::refuse;
 ghost use mathlib.Core.Path.{_≡_};
-ghost use Rattle.players.specs.Calls.{left, whole, checked, made-fresh};
+ghost use Rattle.players.specs.Calls.{left, whole, checked, made-fresh, shared};
 
 // A step: its kind, with that kind's fields. The number of each kind, and the document's word where it has one of its own, stand beside it.
 pub enum Step {
@@ -67,4 +67,15 @@ pub fn check(store: &[u32], players: &[u32]) -> Reply
         return refuse(codes::BROKEN_RULE);
     }
     done()
+}
+
+// How many thousandths of the player's answered reads came from memory, and the remainder.
+pub fn share(store: &[u32], players: &[u32], player: u8) -> Reply
+    ensures { λ r. ⌜ r ≡ shared player (now (store .entry)) (now (players .entry)) ⌝ }
+{
+    let tested = check(store, players);
+    if tested.code != 0 {
+        return tested;
+    }
+    counters::region::share(&players[layout::COUNTERS..layout::COUNTERS_END], player)
 }

@@ -82,5 +82,8 @@ pub(crate) fn players_hold(players: &[u32]) -> bool
     if !values_hold(players) {
         return false;
     }
-    requests::region::holds(&players[layout::REQUESTS..layout::REQUESTS_END], last)
+    if !requests::region::holds(&players[layout::REQUESTS..layout::REQUESTS_END], last) {
+        return false;
+    }
+    counters::region::holds(&players[layout::COUNTERS..layout::COUNTERS_END])
 }

@@ -29,12 +29,12 @@ use Rattle.requests.proofs.Placed.{Requests}
 use Rattle.requests.proofs.RegionLaws.{crossed-region}
 use Rattle.players.specs.declared.Step.the-variants.{RequestGuard, Read, Write, Load}
 use Rattle.players.specs.Replies.{refusal, issued, cache-read}
-use Rattle.players.specs.Rules.{empty, State, Result, with-player, with-requests, every, all-entries, owns, live, cleared as cleared-player, request-guard, cache-hit, read-from-store, write, load, with-cached, step}
+use Rattle.players.specs.Rules.{empty, State, Result, with-player, with-requests, every, all-entries, owns, live, cleared as cleared-player, request-guard, cache-hit, read-from-cache, read-from-store, write, load, with-cached, step}
 use Rattle.players.specs.Table.{players-words, tableOf}
 use Rattle.players.proofs.Tables.{Ok, few-requests}
-use Rattle.steps.specs.InnerWords.{Moves, live-guard, hit, all-are, added, crossed-table, caching, cleared}
-use Rattle.steps.proofs.StateLaws.{part-of, owner-word, version-word, value-word, live-state, hit-state, requests-put, added-state, cached-put, cleared-put}
-use Rattle.steps.proofs.MoveLaws.{moves, stays, refused, last-is, used-is, hit-is, full-is, room-is}
+use Rattle.steps.specs.InnerWords.{Moves, live-guard, hit, all-are, added, counted-table, crossed-table, caching, cleared}
+use Rattle.steps.proofs.StateLaws.{part-of, owner-word, version-word, value-word, live-state, hit-state, requests-put, added-state, counted-state, cached-put, cleared-put}
+use Rattle.steps.proofs.MoveLaws.{moves, refused, last-is, used-is, hit-is, full-is, room-is}
 
 -- ---- a serial is needed
 
@@ -84,11 +84,15 @@ module _ (t : List ℕ) (l : length t ≡ players-words) (p e : ℕ) where
     cached-is : (s : State) → t ≡ tableOf s → (b : Bool) → b ≡ hit t p e → cache-hit s p e ≡ b
     cached-is s y b eb = sym (eb ∙ ap (λ (u : List ℕ). hit u p e) y ∙ hit-state s p e hp he)
 
-    pub read-hit : true ≡ hit t p e → Moves f t (cache-read (getD t (4609 + (p * 256 + e)) 0) (getD t (6657 + (p * 256 + e)) 0)) t
-    read-hit b =
-        stays f t l _
+    pub read-hit : true ≡ hit t p e → (t′ : List ℕ) → t′ ≡ counted-table p 2 t → Moves f t (cache-read (getD t (4609 + (p * 256 + e)) 0) (getD t (6657 + (p * 256 + e)) 0)) t′
+    read-hit b t′ et =
+        moves f t l _ t′
         (λ s o y.
-        rw (lt-leb 8 p hp, cached-is s y true b, ap (λ (u : List ℕ). getD u (4609 + (p * 256 + e)) 0) y ∙ version-word s p e hp he, ap (λ (u : List ℕ). getD u (6657 + (p * 256 + e)) 0) y ∙ value-word s p e hp he))
+        let d : f s ≡ read-from-cache s p e = rw (lt-leb 8 p hp, cached-is s y true b) in
+        rw d (
+          rw (ap (λ (u : List ℕ). getD u (4609 + (p * 256 + e)) 0) y ∙ version-word s p e hp he, ap (λ (u : List ℕ). getD u (6657 + (p * 256 + e)) 0) y ∙ value-word s p e hp he),
+          et ∙ ap (counted-table p 2) y ∙ counted-state s p 2 hp,
+        ))
 
     module _ (b : false ≡ hit t p e) {x : Scan} (ex : x ≡ scanned (writing p e) (take 768 (drop 8705 t))) {full : Bool} (ef : full ≡ turned-away (count-in (x .counts)) p) where
       pub read-full : full ≡ true → (r : Reply) → r ≡ refusal 38 → Moves f t r t

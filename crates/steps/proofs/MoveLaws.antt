@@ -30,7 +30,7 @@ module _ (f : State → Result) (t : List ℕ) (l : length t ≡ players-words) 
   moves t′ m = record { moved = λ st ls v. m (stateOf st t) (ok-tables st t v ls l) (sym (players-table-back st t v ls l)) }
 
   -- it stays as it is
-  pub stays : ((s : State) → Ok s → t ≡ tableOf s → f s ≡ result s r) → Moves f t r t
+  stays : ((s : State) → Ok s → t ≡ tableOf s → f s ≡ result s r) → Moves f t r t
   stays m =
       moves t
       (λ s o e.

@@ -26,9 +26,9 @@ use Rattle.players.specs.declared.Step.the-variants.{Respond}
 use Rattle.players.specs.Replies.{granted as grants, not-held, layout-changed, store-read, committed, rejected}
 use Rattle.players.specs.Rules.{Cached, State, removed, every, owns, live, may-cache, with-cached, cache, still-owned, respond-guard-request, respond-read, respond-write, respond, step}
 use Rattle.players.specs.Table.{players-words, tableOf}
-use Rattle.steps.specs.InnerWords.{Moves, live-guard, caching, filled, dropped}
+use Rattle.steps.specs.InnerWords.{Moves, live-guard, counted-table, caching, filled, dropped}
 use Rattle.steps.specs.InnerRespond.{Responds, write-reply, owning, still-owning, cacheable, remembering}
-use Rattle.steps.proofs.StateLaws.{owner-word, epoch-word, live-state, granted, cached-put}
+use Rattle.steps.proofs.StateLaws.{owner-word, epoch-word, live-state, counted-state, granted, cached-put}
 use Rattle.steps.proofs.LeavingLaws.{fit-moves, removed-put}
 use Rattle.steps.proofs.DropLaws.{dropped-put}
 
@@ -163,8 +163,13 @@ module _ (r : Request) where
   rejected-reply f = rw (ne-eqb (r .first) 1 f)
 
 module _ (r : Request) (hp : r .player < 8) where
-  pub read-responds : (t t′ : List ℕ) → t′ ≡ remembering (r .player) (r .low) (r .guard) (r .overlapped) (r .first) (r .second) t → Responds respond-read r t (store-read (r .first) (r .second)) t′
-  read-responds t t′ e = record { responded = λ s k _ y. (refl, e ∙ remember-state r hp (low-of r k) s (r .first) (r .second) t y) }
+  pub read-responds : (t u t′ : List ℕ) → u ≡ remembering (r .player) (r .low) (r .guard) (r .overlapped) (r .first) (r .second) t → t′ ≡ counted-table (r .player) 3 u → Responds respond-read r t (store-read (r .first) (r .second)) t′
+  read-responds t u t′ e f =
+      record {
+        responded =
+            λ s k _ y.
+            (refl, f ∙ ap (counted-table (r .player) 3) (e ∙ remember-state r hp (low-of r k) s (r .first) (r .second) t y) ∙ counted-state (cache s r (r .first) (r .second)) (r .player) 3 hp);
+      }
 
   -- ---- write
 

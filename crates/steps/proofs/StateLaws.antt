@@ -22,12 +22,15 @@ use Rattle.requests.specs.Calls.{with-request}
 use Rattle.requests.proofs.Basics.{decide, cond-elim}
 use Rattle.requests.proofs.Placed.{length-placed}
 use Rattle.requests.proofs.RegionLaws.{append-region}
-use Rattle.players.specs.Rules.{Cached, empty, Player, State, with-requests, with-player, issue, live, set-owner, cache-hit, grant, with-cached}
+use Rattle.counters.specs.declared.Counts.{Counts}
+use Rattle.counters.specs.Region.{counted-at, regionOf as counter-region}
+use Rattle.counters.proofs.RegionLaws.{length-region as length-counters, counted-region}
+use Rattle.players.specs.Rules.{Cached, empty, Player, State, with-requests, with-counters, with-count, with-player, issue, live, set-owner, cache-hit, grant, with-cached}
 use Rattle.players.specs.Regions.{region, joined}
-use Rattle.players.specs.Table.{the-owners, the-epochs, the-held, the-guards, the-versions, the-values, the-requests, cells, regions, tableOf}
+use Rattle.players.specs.Table.{the-owners, the-epochs, the-held, the-guards, the-versions, the-values, the-requests, the-counters, cells, regions, tableOf}
 use Rattle.players.proofs.Regions.{region-at, made-put, made-set}
-use Rattle.players.proofs.Tables.{made-of, owners-of, epochs-of, held-of, guards-of, versions-of, values-of, requests-of}
-use Rattle.steps.specs.InnerWords.{live-guard, hit, added, caching, filled, cleared}
+use Rattle.players.proofs.Tables.{made-of, owners-of, epochs-of, held-of, guards-of, versions-of, values-of, requests-of, counters-of}
+use Rattle.steps.specs.InnerWords.{live-guard, hit, added, counted-table, caching, filled, cleared}
 use Rattle.steps.proofs.RunLaws.{run, run-listed, cells-at, same-cells, set-cells, run-cells, put-part, keep-part}
 use Rattle.steps.proofs.TableLaws.{made-fill}
 
@@ -101,6 +104,26 @@ unfolding added
 added-state s k r ek h er =
     rw (issue-put s (r .serial) er, ek)
     (requests-put (issue s) _ _ (ap (with-request (length (s .requests)) r) (part-of (issue s)) ∙ append-region (s .requests) r h))
+
+-- ---- the read counters
+
+counters-part : (s : State) → take 16 (drop 9473 (tableOf s)) ≡ counter-region (s .counters)
+unfolding region
+counters-part s = counters-of s
+
+counters-put : (s : State) (q : List ℕ) (f : ℕ → Counts) → q ≡ counter-region f → putMid 9473 16 (tableOf s) q ≡ tableOf (with-counters s f)
+unfolding tableOf
+counters-put s q f e = rw e (made-put (made-of s) the-counters tt (counter-region f) (length-counters f) .is)
+
+-- the words of a player's counter put back
+pub counted-words : (p code : ℕ) (t q : List ℕ) → q ≡ counted-at p code (take 16 (drop 9473 t)) → putMid 9473 16 t q ≡ counted-table p code t
+unfolding counted-table
+counted-words p code t q e = ap (putMid 9473 16 t) e
+
+-- a read of a player is counted
+pub counted-state : (s : State) (p code : ℕ) → p < 8 → counted-table p code (tableOf s) ≡ tableOf (with-count s p code)
+unfolding counted-table
+counted-state s p code h = counters-put s _ _ (ap (counted-at p code) (counters-part s) ∙ counted-region (s .counters) p code h)
 
 -- ---- owners
 

@@ -14,9 +14,10 @@ use Rattle.requests.specs.declared.Request.{Request}
 use Rattle.requests.specs.Calls.{with-request, with-abandoned, without, Crossing, crossing, crossed}
 use Rattle.players.specs.Replies.{out-of-range}
 use Rattle.players.specs.Rules.{State, Result, check, need-serial, set-owner}
-use Rattle.players.specs.Table.{epochs-at, guards-at, held-at, owners-at, requests-at, values-at, versions-at, stateOf, tableOf, valid}
+use Rattle.players.specs.Table.{epochs-at, counters-at, guards-at, held-at, owners-at, requests-at, values-at, versions-at, stateOf, tableOf, valid}
 use Rattle.store.specs.Table.{store-words}
 use Rattle.requests.specs.Region.{region-words}
+use Rattle.counters.specs.Region.{counters-words, counted-at}
 
 -- a step that leaves the store's table alone: what it does to a players' table that keeps the rules beside some store's
 pub record Moves (f : State → Result) (t : List ℕ) (r : Reply) (t′ : List ℕ) : Type 0 where
@@ -64,6 +65,10 @@ unfoldable pub giving-up : ℕ → Bool → List ℕ → List ℕ
 giving-up k delivered t =
     let w = take region-words (drop requests-at t) in
     putMid requests-at region-words t (cond delivered (without k w) (with-abandoned k w))
+
+-- the answer to a read of player p counted for it, by the code of its reply
+unfoldable pub counted-table : ℕ → ℕ → List ℕ → List ℕ
+counted-table p code t = putMid counters-at counters-words t (counted-at p code (take counters-words (drop counters-at t)))
 
 -- what is cached in cell i
 unfoldable pub caching : ℕ → ℕ → ℕ → ℕ → List ℕ → List ℕ

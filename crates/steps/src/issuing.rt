@@ -1,5 +1,6 @@
 // Steps 3, 4 and 5: requests that are issued. The length of the players' table is known; its rules are not tested.
 use crate::cells;
+use crate::counting;
 use crate::issued;
 use players::layout;
 use requests::Request;
@@ -122,7 +123,7 @@ pub(crate) fn request_guard(players: &mut [u32], player: u8, range: Range) -> Re
     issued(last + 1)
 }
 
-// Step 4: from the cache if it holds a live value, else a request.
+// Step 4: from the cache if it holds a live value, and then it is counted; else a request.
 pub(crate) fn read(players: &mut [u32], player: u8, entry: u8) -> Reply
     requires { ⌜ length (now players) ≡ players-words ⌝ }
     ensures { λ r. ⌜ Moves (λ s. step s (Read player entry)) (now (players .entry)) r (now (players .exit)) ⌝ }
@@ -132,11 +133,13 @@ pub(crate) fn read(players: &mut [u32], player: u8, entry: u8) -> Reply
     }
     let i = player as usize * layout::ENTRIES + entry as usize;
     if cells::is_hit(players, player, entry) {
-        return Reply {
+        let reply = Reply {
             code: codes::CACHE_READ,
             a: players[layout::CACHED_VERSIONS + i],
             b: players[layout::CACHED_VALUES + i],
         };
+        counting::count(players, player, codes::CACHE_READ);
+        return reply;
     }
     let scan = region::scan_writing(
         &players[layout::REQUESTS..layout::REQUESTS_END],

@@ -1,5 +1,6 @@
 // The steps, on the store's table and the players'.
 mod cells;
+mod counting;
 mod issuing;
 mod leaving;
 mod loading;

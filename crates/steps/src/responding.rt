@@ -1,5 +1,6 @@
 // Step 7: responses that reach the player. The length of the players' table is known; its rules are not tested.
 use crate::cells;
+use crate::counting;
 use players::layout;
 use requests::Fit;
 use requests::Found;
@@ -111,7 +112,7 @@ fn respond_guard_request(players: &mut [u32], r: Request) -> Reply
     }
 }
 
-// A read: its outcome, cached if it may be.
+// A read: its outcome, cached if it may be, and counted for its player.
 fn respond_read(players: &mut [u32], r: Request) -> Reply
     requires { ⌜ (length (now players) ≡ players-words) × (r .player < 8) ⌝ }
     ensures { λ x. ⌜ Responds respond-read r (now (players .entry)) x (now (players .exit)) ⌝ }
@@ -125,6 +126,7 @@ fn respond_read(players: &mut [u32], r: Request) -> Reply
         r.first,
         r.second,
     );
+    counting::count(players, r.player, codes::STORE_READ);
     Reply {
         code: codes::STORE_READ,
         a: r.first,

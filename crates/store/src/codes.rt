@@ -40,3 +40,5 @@ pub const WRONG_BOUNDARY: u32 = 35;
 
 // It takes the place of 33, which no call gives.
 pub const NO_PLACE_LEFT: u32 = 38;
+
+pub const NO_ANSWERED_READ: u32 = 39;

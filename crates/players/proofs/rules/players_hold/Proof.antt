@@ -3,7 +3,7 @@
 use borrow.Author.Needs.{needs}
 use mathlib.Core.Path.{sym, _∙_}
 use borrow.Author.Tests.{not-true, not-false}
-use Rattle.players.proofs.CheckLaws.{table-last, table-owners, table-epochs, table-held, table-values, table-rest}
+use Rattle.players.proofs.CheckLaws.{table-last, table-owners, table-epochs, table-held, table-values, table-requests, table-counters}
 use Rattle.players.proofs.rules.players_hold.Statement.{statement}
 use Rattle.players.proofs.rules.players_hold.Tie as tie
 
@@ -92,14 +92,33 @@ holds-requires c κs = search needs
 
 returns-6 : tie.Need-returns-6
 returns-6 c =
-    table-rest (c .before .before .before .before .before .before .before .before .before .before .before .before .before .before .before .before .args .players .now) (c .before .before .before .before .before .before .before .before .before .before .before .before .before .if1 .left)
-    (sym (c .before .before .before .before .before .before .before .before .before .before .before .at-most .ensures) ∙ not-false _ (c .before .before .before .before .before .before .before .before .before .before .if2 .left))
-    (sym (c .before .before .before .before .before .before .before .before .at-most2 .ensures) ∙ not-false _ (c .before .before .before .before .before .before .before .if3 .left))
-    (sym (c .before .before .before .before .before .at-most3 .ensures) ∙ not-false _ (c .before .before .before .before .if4 .left))
-    _
-    (sym (c .before .before .before .values-hold .ensures) ∙ not-false _ (c .before .before .if5 .left))
-    (c .holds .ensures)
+    table-requests (c .before .before .before .before .before .before .before .before .before .before .before .before .before .before .before .before .before .args .players .now) (c .before .before .before .before .before .before .before .before .before .before .before .before .before .before .if1 .left)
+    (sym (c .before .before .before .before .before .before .before .before .before .before .before .before .at-most .ensures) ∙ not-false _ (c .before .before .before .before .before .before .before .before .before .before .before .if2 .left))
+    (sym (c .before .before .before .before .before .before .before .before .before .at-most2 .ensures) ∙ not-false _ (c .before .before .before .before .before .before .before .before .if3 .left))
+    (sym (c .before .before .before .before .before .before .at-most3 .ensures) ∙ not-false _ (c .before .before .before .before .before .if4 .left))
+    (sym (c .before .before .before .before .values-hold .ensures) ∙ not-false _ (c .before .before .before .if5 .left))
+    (sym (c .before .holds .ensures) ∙ not-true _ (c .if6 .taken))
+sub-holds-2 : tie.Need-sub-holds-2
+sub-holds-2 c = search needs
 
+part-holds-start-2 : tie.Need-part-holds-start-2
+part-holds-start-2 c = search needs
+
+part-holds-end-2 : tie.Need-part-holds-end-2
+part-holds-end-2 c = search needs
+
+holds-requires-2 : tie.Need-holds-requires-2
+holds-requires-2 c κs = search needs
+
+returns-7 : tie.Need-returns-7
+returns-7 c =
+    table-counters (c .before .before .before .before .before .before .before .before .before .before .before .before .before .before .before .before .before .before .before .args .players .now) (c .before .before .before .before .before .before .before .before .before .before .before .before .before .before .before .before .if1 .left)
+    (sym (c .before .before .before .before .before .before .before .before .before .before .before .before .before .before .at-most .ensures) ∙ not-false _ (c .before .before .before .before .before .before .before .before .before .before .before .before .before .if2 .left))
+    (sym (c .before .before .before .before .before .before .before .before .before .before .before .at-most2 .ensures) ∙ not-false _ (c .before .before .before .before .before .before .before .before .before .before .if3 .left))
+    (sym (c .before .before .before .before .before .before .before .before .at-most3 .ensures) ∙ not-false _ (c .before .before .before .before .before .before .before .if4 .left))
+    (sym (c .before .before .before .before .before .before .values-hold .ensures) ∙ not-false _ (c .before .before .before .before .before .if5 .left))
+    (sym (c .before .before .before .holds .ensures) ∙ not-false _ (c .before .before .if6 .left))
+    _ (c .holds2 .ensures)
 pub players-hold-spec : {M : Type 1} → statement M
 players-hold-spec =
     tie.close
@@ -127,4 +146,9 @@ players-hold-spec =
     part-holds-start
     part-holds-end
     holds-requires
-    returns-6)
+    returns-6
+    sub-holds-2
+    part-holds-start-2
+    part-holds-end-2
+    holds-requires-2
+    returns-7)

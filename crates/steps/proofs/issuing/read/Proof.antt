@@ -24,31 +24,38 @@ add-i c = search needs
 is-hit-requires : tie.Need-is-hit-requires
 is-hit-requires c κs = search needs
 
-add-t15 : tie.Need-add-t15
-add-t15 c = search needs
+add-t16 : tie.Need-add-t16
+add-t16 c = search needs
 
-mul-t16 : tie.Need-mul-t16
-mul-t16 c = search needs
+mul-t17 : tie.Need-mul-t17
+mul-t17 c = search needs
 
-slice-read-t18 : tie.Need-slice-read-t18
-slice-read-t18 c = search needs
+slice-read-t19 : tie.Need-slice-read-t19
+slice-read-t19 c = search needs
 
-add-t19 : tie.Need-add-t19
-add-t19 c = search needs
+add-t20 : tie.Need-add-t20
+add-t20 c = search needs
 
-mul-t20 : tie.Need-mul-t20
-mul-t20 c = search needs
+mul-t21 : tie.Need-mul-t21
+mul-t21 c = search needs
 
-slice-read-t22 : tie.Need-slice-read-t22
-slice-read-t22 c = search needs
+slice-read-t23 : tie.Need-slice-read-t23
+slice-read-t23 c = search needs
+
+count-requires : tie.Need-count-requires
+count-requires c κs = search needs
 
 same-length : tie.Need-same-length
 same-length c = search needs
 
 returns-2 : tie.Need-returns-2
 returns-2 c =
-    let a = c .before .before .before .before .before .before .before .args in
-    read-hit (a .players .now) (c .before .before .before .before .before .before .before .pre) (a .player) (a .entry) (omega arith) (omega arith) (sym (c .before .before .if2 .taken) ∙ c .before .before .before .is-hit .ensures)
+    let k = c .before .before in
+    let h = k .before .before .before .before in
+    let e1 = h .before .before .before in
+    let x = e1 .before .before in
+    let a = x .args in
+    read-hit (a .players .now) (x .pre) (a .player) (a .entry) (omega (arith, e1 .if1 .left)) (omega (arith, x .fits)) (sym (h .if2 .taken) ∙ h .before .is-hit .ensures) _ (k .count .ensures)
 
 sub-scan-writing : tie.Need-sub-scan-writing
 sub-scan-writing c = search needs
@@ -145,12 +152,13 @@ read-spec =
     mul-i
     add-i
     is-hit-requires
-    add-t15
-    mul-t16
-    slice-read-t18
-    add-t19
-    mul-t20
-    slice-read-t22
+    add-t16
+    mul-t17
+    slice-read-t19
+    add-t20
+    mul-t21
+    slice-read-t23
+    count-requires
     same-length
     returns-2
     sub-scan-writing

@@ -8,13 +8,19 @@ use Rattle.steps.proofs.responding.respond_read.Tie as tie
 remember-requires : tie.Need-remember-requires
 remember-requires c κs = search needs
 
+count-requires : tie.Need-count-requires
+count-requires c κs = search needs
+
 same-length : tie.Need-same-length
 same-length c = search needs
 
 returns : tie.Need-returns
 returns c =
-    let a = c .before .before .before .before .before .args in
-    read-responds (a .r) (c .before .before .before .before .before .pre .1) (a .players .now) _ (c .before .before .remember .ensures)
+    let k = c .before .before in
+    let m = k .before .before .before .before in
+    let x = m .before .before .before in
+    let a = x .args in
+    read-responds (a .r) (x .pre .1) (a .players .now) _ _ (m .remember .ensures) (k .count .ensures)
 
 pub respond-read-spec : {M : Type 1} → statement M
-respond-read-spec = tie.close (tie.spec remember-requires same-length returns)
+respond-read-spec = tie.close (tie.spec remember-requires count-requires same-length returns)

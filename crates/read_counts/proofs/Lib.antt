@@ -1,0 +1,6 @@
+-- The proof of the claim: what each step adds (StepCounts), how many steps a session stands for (FewSteps), and from these the claim, by the rules (Theorem), of runs
+-- and any calls (CallsTheorem).
+pub mod StepCounts
+pub mod FewSteps
+pub mod Theorem
+pub mod CallsTheorem
