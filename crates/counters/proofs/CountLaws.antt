@@ -5,7 +5,7 @@ use Prim.Native.Nat.{ℕ, _+_, _*_, _/_, _≤_}
 use native.Mathlib.Omega.{arith}
 use native.Mathlib.Nat.{div-le-of-le-mul, mul-le-mul-right, mul-comm}
 use lib.Dec.{T, leb, eqb, leb→le, le→leb}
-use Rattle.store.proofs.Bools.{and-left, and-right, and-both, cond-elim}
+use Rattle.store.proofs.Bools.{and-left, and-both, cond-elim}
 use Rattle.counters.specs.declared.Counts.{Counts}
 use Rattle.counters.specs.Model.{most, counts, none, one-if, counted, counted-by, sound}
 
@@ -14,10 +14,7 @@ use Rattle.counters.specs.Model.{most, counts, none, one-if, counted, co
 pub hits-least : (c : Counts) → T (sound c) → c .hits ≤ c .answered
 hits-least c t = leb→le (c .hits) (c .answered) (and-left (leb (c .hits) (c .answered)) (leb (c .answered) most) t)
 
-pub answered-least : (c : Counts) → T (sound c) → c .answered ≤ most
-answered-least c t = leb→le (c .answered) most (and-right (leb (c .hits) (c .answered)) (leb (c .answered) most) t)
-
-pub sound-from : (c : Counts) → c .hits ≤ c .answered → c .answered ≤ most → T (sound c)
+sound-from : (c : Counts) → c .hits ≤ c .answered → c .answered ≤ most → T (sound c)
 sound-from c h g = and-both (leb (c .hits) (c .answered)) (leb (c .answered) most) (le→leb _ _ h) (le→leb _ _ g)
 
 pub sound-none : T (sound none)

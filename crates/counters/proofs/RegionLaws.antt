@@ -72,7 +72,7 @@ sound-valid f s = and-both (whole (regionOf f)) (all-sound (regionOf f)) (rw (wh
 -- ---- the calls
 
 -- one player's words set
-pub set-region : (f : ℕ → Counts) (p : ℕ) (c : Counts) → p < 8 → with-counts p c (regionOf f) ≡ regionOf (put p c f)
+set-region : (f : ℕ → Counts) (p : ℕ) (c : Counts) → p < 8 → with-counts p c (regionOf f) ≡ regionOf (put p c f)
 set-region f p c h =
     sym
     (region-is (put p c f) (with-counts p c (regionOf f)) (simp length-set (length-region f))

@@ -10,3 +10,12 @@ pub fn count(counts: &mut Counts, code: u32)
 {
     *counts = counting::counted_by(*counts, code);
 }
+
+// The counts brought up to date, by value: they are lent to `count`, and given back.
+pub fn brought(counts: Counts, code: u32) -> Counts
+    ensures { λ r. ⌜ r ≡ counted-by counts code ⌝ }
+{
+    let mut lent = counts;
+    count(&mut lent, code);
+    lent
+}

@@ -2,6 +2,7 @@
 use crate::Counts;
 use crate::counting;
 use crate::layout;
+use crate::lent;
 use store::Reply;
 use store::codes;
 ghost use mathlib.Core.Path.{_≡_};
@@ -66,7 +67,7 @@ pub fn count(region: &mut [u32], player: u8, code: u32)
     if p >= layout::PLAYERS {
         return;
     }
-    let counts = counting::counted_by(counts_at(region, p), code);
+    let counts = lent::brought(counts_at(region, p), code);
     put_counts(region, p, counts);
 }
 

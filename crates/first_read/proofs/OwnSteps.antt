@@ -18,7 +18,7 @@ use Rattle.requests.specs.Shares.{no-place}
 use Rattle.requests.proofs.ShareLaws.{own-place-left}
 use Rattle.players.specs.declared.Step.the-variants.{RequestGuard, Read, Deliver, Respond}
 use Rattle.players.specs.Replies.{issued, done, granted, store-read, cache-read, refusal, out-of-range, not-owner, already-requested, no-such-request, no-place-left, no-serial-left}
-use Rattle.players.specs.Rules.{State, Player, Cached, Result, step, check, need-serial, need-place, on-request, players, all-entries, owns, live, cache-hit, with-requests, issue, request-guard, read-from-store, settled, deliver, deliver-read, respond, still-owned, may-cache, removed, grant, with-cached, cleared, empty}
+use Rattle.players.specs.Rules.{State, Player, Cached, Result, step, check, need-serial, need-place, on-request, players, all-entries, owns, live, cache-hit, with-requests, issue, request-guard, read-from-store, settled, deliver, deliver-read, respond, still-owned, may-cache, removed, grant, with-count, counting, with-cached, cleared, empty}
 use Rattle.linearizable.proofs.Tests.{and-true, clash, cond-elim, cond-true, cond-false, put-same}
 use Rattle.linearizable.proofs.RequestLists.{In, all-map, all-keep, all-append}
 use Rattle.first_read.proofs.Lists.{none-any, keep-changed, keep-append, keep-nothing, find-kept, none-counted}
@@ -294,12 +294,12 @@ module _ (p : ℕ) (is-player : p < players) (g : Range) where
     pub read-answer-step : {pl : Player} (m a b : ℕ) (s : State) → pl .held e ≡ n → Phase (only m) (mark-delivered a b (reading m) ∷ []) pl n s → let x = step s (Respond m) in (x .reply ≡ store-read a b) × Phase none [] (remembering a b pl) n (x .state)
     read-answer-step {pl} m a b s held f =
         let r = mark-delivered a b (reading m) in
-        let t = with-cached (removed s r) p e (answer a b) in
+        let t = with-count (with-cached (removed s r) p e (answer a b)) p 3 in
         let player : t .player p ≡ remembering a b (s .player p) = put-same p (remembering a b (s .player p)) (s .player) in
         let may : may-cache s r ≡ true = and-true (not (eqb n 0)) _ (ap not (ne-eqb n 0 z))
         (and-true (eqb n (s .player p .held e)) _ (eq-eqb n (s .player p .held e) (sym (f .held e w ∙ held))) (and-true (live s p e) true (lives s f e w held z) refl)) in
         subst (λ (x : Result). (x .reply ≡ store-read a b) × Phase none [] (remembering a b pl) n (x .state))
-        (sym (found s m (f .numbered) r (f .requests) Answerable (respond s) refl ∙ ap (λ (y : State). record { state = y; reply = store-read a b }) (cond-true (may-cache s r) _ _ may))) (
+        (sym (found s m (f .numbered) r (f .requests) Answerable (respond s) refl ∙ ap (λ (y : State). counting p (record { state = y; reply = store-read a b })) (cond-true (may-cache s r) _ _ may))) (
           refl,
           record {
             numbered = gone-numbered s m (f .numbered) t refl refl;

@@ -42,7 +42,7 @@ from-memory r = eqb (r .code) 2
 abbrev pub replies-to : (Reply → Bool) → ℕ → State → List Step → List Reply → ℕ
 replies-to f p s [] rs = 0
 replies-to f p s (x ∷ xs) [] = 0
-replies-to f p s (x ∷ xs) (r ∷ rs) = one-if (f r && eqb (reader s x) p) + replies-to f p (step s x .state) xs rs
+replies-to f p s (x ∷ xs) (r ∷ rs) = one-if (f r && eqb p (reader s x)) + replies-to f p (step s x .state) xs rs
 
 -- ---- the claim
 

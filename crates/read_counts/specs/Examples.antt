@@ -3,6 +3,7 @@
 use mathlib.Core.Path.{_≡_, refl}
 use mathlib.Core.List.{List, [], _∷_, map}
 use Prim.Native.Nat.{ℕ}
+use Rattle.store.specs.Model.{unbroken}
 use Rattle.store.specs.declared.Range.{Range}
 use Rattle.counters.specs.declared.Counts.{Counts}
 use Rattle.counters.specs.Model.{most, counts, none, counted, counted-by}
@@ -43,19 +44,19 @@ told =
 
 -- the codes of the replies, by hand
 pub told-case : map (λ r. r .code) (replies fresh told) ≡ 1 ∷ 1 ∷ 0 ∷ 6 ∷ 1 ∷ 0 ∷ 3 ∷ 2 ∷ 2 ∷ 1 ∷ 0 ∷ 3 ∷ 2 ∷ 28 ∷ 1 ∷ 0 ∷ 4 ∷ 1 ∷ 0 ∷ 0 ∷ []
-unfolding counted counted-by
+unfolding counted counted-by unbroken
 told-case = refl
 
 -- player 3 has four answered reads, three of them from memory; player 5 one, from the store; the others none
 pub counts-case : map (state-after fresh told .counters) (0 ∷ 3 ∷ 5 ∷ 8 ∷ []) ≡ none ∷ counts 4 3 ∷ counts 1 0 ∷ none ∷ []
-unfolding state-after counted counted-by
+unfolding state-after counted counted-by unbroken
 counts-case = refl
 
 -- as many replies went to them
 pub replies-case :
     map (λ p. replies-to answers-read p fresh told (replies fresh told) ∷ replies-to from-memory p fresh told (replies fresh told) ∷ []) (0 ∷ 3 ∷ 5 ∷ 8 ∷ [])
     ≡ (0 ∷ 0 ∷ []) ∷ (4 ∷ 3 ∷ []) ∷ (1 ∷ 0 ∷ []) ∷ (0 ∷ 0 ∷ []) ∷ []
-unfolding counted counted-by
+unfolding counted counted-by unbroken
 replies-case = refl
 
 -- an answer goes to the player of the request, whoever owns the entry; one of no request, and other steps, to nobody
@@ -70,9 +71,9 @@ abbrev full : State
 full = with-counters fresh (λ p. counts most 12)
 
 pub full-case : map (state-after full told .counters) (3 ∷ 5 ∷ []) ≡ counts most 12 ∷ counts most 12 ∷ []
-unfolding state-after counted counted-by
+unfolding state-after counted counted-by unbroken
 full-case = refl
 
 pub full-replies : replies full told ≡ replies fresh told
-unfolding counted counted-by
+unfolding counted counted-by unbroken
 full-replies = refl

@@ -15,8 +15,8 @@ returns-2 c = count-nobody _ _ _ (search needs) (search needs)
 counts-at-requires : tie.Need-counts-at-requires
 counts-at-requires c κs = search needs
 
-counted-by-requires : tie.Need-counted-by-requires
-counted-by-requires c κs = search needs
+brought-requires : tie.Need-brought-requires
+brought-requires c κs = search needs
 
 put-counts-requires : tie.Need-put-counts-requires
 put-counts-requires c κs = search needs
@@ -28,9 +28,9 @@ returns-3 : tie.Need-returns-3
 returns-3 c =
     let p = c .before .before in
     let k = p .before .before in
-    p .put-counts .ensures ∙ count-player _ _ _ (search needs) (search needs) _ (k .before .counts-at .ensures) _ (k .counted-by .ensures)
+    p .put-counts .ensures ∙ count-player _ _ _ (search needs) (search needs) _ (k .before .counts-at .ensures) _ (k .brought .ensures)
 
 pub count-spec : {M : Type 1} → statement M
 count-spec =
     tie.close
-    (tie.spec returns returns-2 counts-at-requires counted-by-requires put-counts-requires same-length returns-3)
+    (tie.spec returns returns-2 counts-at-requires brought-requires put-counts-requires same-length returns-3)

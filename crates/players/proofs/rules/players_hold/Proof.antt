@@ -98,6 +98,7 @@ returns-6 c =
     (sym (c .before .before .before .before .before .before .at-most3 .ensures) ∙ not-false _ (c .before .before .before .before .before .if4 .left))
     (sym (c .before .before .before .before .values-hold .ensures) ∙ not-false _ (c .before .before .before .if5 .left))
     (sym (c .before .holds .ensures) ∙ not-true _ (c .if6 .taken))
+
 sub-holds-2 : tie.Need-sub-holds-2
 sub-holds-2 c = search needs
 
@@ -119,6 +120,7 @@ returns-7 c =
     (sym (c .before .before .before .before .before .before .values-hold .ensures) ∙ not-false _ (c .before .before .before .before .before .if5 .left))
     (sym (c .before .before .before .holds .ensures) ∙ not-false _ (c .before .before .if6 .left))
     _ (c .holds2 .ensures)
+
 pub players-hold-spec : {M : Type 1} → statement M
 players-hold-spec =
     tie.close
