@@ -24,13 +24,13 @@ extern "C" {
 
 /* The version of this header, and of the library that it is for. */
 #define FAMDRIZE_VERSION_MAJOR 0
-#define FAMDRIZE_VERSION_MINOR 6
-#define FAMDRIZE_VERSION_PATCH 2
-#define FAMDRIZE_VERSION "0.6.2"
+#define FAMDRIZE_VERSION_MINOR 7
+#define FAMDRIZE_VERSION_PATCH 0
+#define FAMDRIZE_VERSION "0.7.0"
 
 /* Words of the two tables; places for requests in flight, and so of the lent list; the last serial that can be issued. */
 #define FAMDRIZE_STORE_WORDS 1280
-#define FAMDRIZE_PLAYERS_WORDS 9473
+#define FAMDRIZE_PLAYERS_WORDS 9489
 #define FAMDRIZE_REQUESTS 64
 #define FAMDRIZE_LAST_SERIAL 4000000
 
@@ -39,6 +39,12 @@ extern "C" {
  * its own is never refused for want of a place; FAMDRIZE_NO_PLACE_LEFT is for another, or the loader, where the common ones are taken. */
 #define FAMDRIZE_OWN_PLACES 6
 #define FAMDRIZE_COMMON_PLACES 16
+
+/* The highest count of a read counter. Each player has two: its answered reads, and how many of them came from its memory; of player p they are
+ * words 9473 + 2p and 9474 + 2p of the players' table. A step counts, alone or in a run: reply 2 for the step's player in both, reply 3 for the
+ * request's player in the first. Nothing else counts, and no restart sets a count back; famdrize_fresh makes all of them 0. A read that would
+ * carry a count above the highest leaves both. Tables with a count above it, or with the second above the first, break a rule (22). */
+#define FAMDRIZE_LAST_COUNT 4000000000u
 
 /* Guards of the store's entries that are no serials: of an open entry, on which a load or another write that carries 0 commits; of a barred
  * one, in a tablet that restarted, on which no write commits whatever it carries. An entry once guarded or barred is never open again. */
@@ -79,7 +85,7 @@ enum famdrize_kind {
 /* The codes of replies, each with the reply's two numbers a and b, and of refusals, whose numbers are 0. The reasons for which a run stops
  * are another list, below: a number may stand in both and mean two things. */
 enum famdrize_code {
-    FAMDRIZE_DONE = 0,           /* 0, 0; of the store used alone, of counting and of the calls that write, what the call says */
+    FAMDRIZE_DONE = 0,           /* 0, 0; of the share, of the store used alone, of counting and of the calls that write, what the call says */
     FAMDRIZE_ISSUED = 1,         /* serial, 0 */
     FAMDRIZE_CACHE_READ = 2,     /* version, value */
     FAMDRIZE_STORE_READ = 3,     /* version, value */
@@ -107,7 +113,8 @@ enum famdrize_code {
     FAMDRIZE_WRONG_BOUNDARY = 35,
     FAMDRIZE_BUFFER_SHORT = 36,
     FAMDRIZE_SESSION_TOO_LONG = 37,
-    FAMDRIZE_NO_PLACE_LEFT = 38
+    FAMDRIZE_NO_PLACE_LEFT = 38,
+    FAMDRIZE_NO_ANSWERED_READ = 39
 };
 
 /* Why a run stopped. */
@@ -192,6 +199,7 @@ FAMDRIZE_INLINE const char *famdrize_code_words(uint32_t code)
     case FAMDRIZE_SESSION_TOO_LONG: return "a session of more than 16,384 bytes";
     case FAMDRIZE_NO_PLACE_LEFT:
         return "the 16 common places for requests are taken, and the player has 6 requests or more or is the loader";
+    case FAMDRIZE_NO_ANSWERED_READ: return "the player has no answered read";
     default: return "no code of a reply";
     }
 }
@@ -265,7 +273,7 @@ typedef struct {
     uint32_t second;
 } famdrize_request;
 
-/* ---- the two tables: the store's of 1,280 words, the players' of 9,473 */
+/* ---- the two tables: the store's of 1,280 words, the players' of 9,489 */
 
 /* Makes both tables fresh: 0 0 0, or 21. */
 famdrize_reply famdrize_fresh(uint32_t *store, size_t store_words, uint32_t *players, size_t players_words);
@@ -295,6 +303,13 @@ famdrize_reply famdrize_preview(const uint32_t *store, size_t store_words, const
  * they had, and where the run would be refused not even that. It takes about 44 KB of stack, for copies of the tables. */
 famdrize_report famdrize_preview_run(const uint32_t *store, size_t store_words, const uint32_t *players, size_t players_words,
                                      const uint8_t *session, size_t session_bytes, uint32_t budget, uint32_t *replies, size_t replies_words);
+
+/* The share of the player's answered reads that came from its memory, in thousandths: 0, quotient, remainder of 1,000 times the reads from
+ * memory divided by the answered reads. Else the first that applies of 21, 22, 28 where the player is above 7, also for FAMDRIZE_LOADER, and 39
+ * where it has no answered read. Neither table is altered.
+ * The quotient is 0 to 1000, and 1000 only where every read came from memory. It is cut off, not rounded: where the remainder is not 0, the
+ * share is more, by less than a thousandth. printf("%u.%u %%", r.a / 10, r.a % 10) shows it: of one read in three, 0 333 1, it prints 33.3 %. */
+famdrize_reply famdrize_share(const uint32_t *store, size_t store_words, const uint32_t *players, size_t players_words, uint8_t player);
 
 /* ---- records and the session's mark */
 

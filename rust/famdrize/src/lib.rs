@@ -76,6 +76,7 @@ extern crate std;
 
 pub mod raw;
 
+mod counters;
 mod look;
 mod numbers;
 #[cfg(feature = "alloc")]
@@ -89,6 +90,7 @@ mod step;
 mod store;
 mod tables;
 
+pub use counters::{Counts, Share, LAST_COUNT};
 pub use numbers::{Player, Range, Serial};
 #[cfg(feature = "alloc")]
 pub use owned::{Session, Store, Tables};

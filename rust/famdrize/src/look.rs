@@ -1,7 +1,9 @@
 //! What stands in tables that keep their rules, by name: each call reads and alters nothing.
 
+use crate::counters::{counts, share};
 use crate::store::{find_interval, read};
-use crate::{Interval, Player, TablesMut, Versioned, PLAYERS_WORDS, STORE_WORDS};
+use crate::{Counts, Interval, Player, Refusal, Share, TablesMut, Versioned};
+use crate::{PLAYERS_WORDS, STORE_WORDS};
 
 /// The first word of each column of the players' table, as docs/FORMATS.md lays it out.
 const OWNERS: usize = 1;
@@ -31,6 +33,14 @@ impl Look<'_> {
     pub fn held_guard(self, player: Player, entry: u8) -> u32 {
         let row = ENTRIES * usize::from(player.number());
         self.players[HELD_GUARDS + row + usize::from(entry)]
+    }
+
+    pub fn counts(self, player: Player) -> Counts {
+        counts(self.players, player)
+    }
+
+    pub fn share(self, player: Player) -> Result<Share, Refusal> {
+        share(self.store, self.players, player)
     }
 
     pub fn begins_tablet(self, entry: u8) -> bool {
@@ -68,6 +78,21 @@ macro_rules! looks {
             #[must_use]
             pub fn held_guard(&self, player: Player, entry: u8) -> u32 {
                 self.look().held_guard(player, entry)
+            }
+
+            /// The answered reads of the player, and how many of them came from its memory.
+            #[must_use]
+            pub fn counts(&self, player: Player) -> Counts {
+                self.look().counts(player)
+            }
+
+            /// The share of the player's answered reads that came from its memory.
+            ///
+            /// # Errors
+            ///
+            /// 39 where the player has no answered read.
+            pub fn share(&self, player: Player) -> Result<Share, Refusal> {
+                self.look().share(player)
             }
 
             /// Whether a tablet begins at the entry.

@@ -160,6 +160,15 @@ extern "C" {
         replies: *mut u32,
         replies_words: usize,
     ) -> Report;
+    /// The share of the player's answered reads that came from its memory, in thousandths: 0, quotient, remainder; or 21, 22, 28, 39. Neither
+    /// table is altered.
+    pub fn famdrize_share(
+        store: *const u32,
+        store_words: usize,
+        players: *const u32,
+        players_words: usize,
+        player: u8,
+    ) -> Reply;
 
     /// The record at the start of these bytes.
     pub fn famdrize_decode(part: *const u8, part_bytes: usize) -> Decoded;

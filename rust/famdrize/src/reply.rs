@@ -231,6 +231,7 @@ refusals! {
     BufferShort = 36, "a buffer shorter than what is to be written";
     SessionTooLong = 37, "a session of more than 16,384 bytes";
     NoPlaceLeft = 38, "the 16 common places for requests are taken, and the player has 6 requests or more or is the loader";
+    NoAnsweredRead = 39, "the player has no answered read";
 }
 
 impl Refusal {
@@ -286,7 +287,8 @@ mod tests {
         assert_eq!(Refusal::NotOwner.number(), 29);
         assert_eq!(Refusal::SessionTooLong.number(), 37);
         assert_eq!(Refusal::NoPlaceLeft.number(), 38);
-        for number in [0, 1, 9, 20, 39, u32::MAX] {
+        assert_eq!(Refusal::NoAnsweredRead.number(), 39);
+        for number in [0, 1, 9, 20, 40, u32::MAX] {
             assert_eq!(Refusal::from_number(number), None);
         }
     }
@@ -330,6 +332,7 @@ mod tests {
                 [9, 60, 255],
             ),
             (Reply::Refused(Refusal::NoSuchRequest), [32, 0, 0]),
+            (Reply::Refused(Refusal::NoAnsweredRead), [39, 0, 0]),
         ];
         for (reply, numbers) in replies {
             assert_eq!(reply.numbers(), numbers);
@@ -345,7 +348,8 @@ mod tests {
             [20, 0, 0],
             [32, 1, 0],
             [38, 1, 0],
-            [39, 0, 0],
+            [39, 0, 1],
+            [40, 0, 0],
         ] {
             assert_eq!(Reply::from_numbers(numbers), None);
         }
@@ -377,6 +381,7 @@ mod tests {
             (36, "a buffer shorter than what is to be written"),
             (37, "a session of more than 16,384 bytes"),
             (38, "the 16 common places for requests are taken, and the player has 6 requests or more or is the loader"),
+            (39, "the player has no answered read"),
         ];
         assert_eq!(told.len(), Refusal::ALL.len());
         for (refusal, (number, words)) in Refusal::ALL.iter().zip(told) {

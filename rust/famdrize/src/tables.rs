@@ -7,7 +7,7 @@ use crate::{pending, preview, raw, Fields, Player, Refusal, Reply, Report, Reque
 use crate::{REQUESTS, STORE_WORDS};
 
 /// Words of the players' table.
-pub const PLAYERS_WORDS: usize = 9473;
+pub const PLAYERS_WORDS: usize = 9489;
 
 /// The store's table and the players', lent by the caller, which keep their rules: the whole state, without heap.
 ///

@@ -190,7 +190,7 @@ mod tests {
         let tables = Tables::fresh();
         let mut store = vec![0; 1280];
         store[0] = 1;
-        let mut players = vec![0; 9473];
+        let mut players = vec![0; 9489];
         players[1..257].fill(8);
         assert_eq!(tables.store_words(), store);
         assert_eq!(tables.players_words(), players);
