@@ -35,6 +35,12 @@
 //! [`TablesMut::owner`], [`epoch`](TablesMut::epoch), [`held_guard`](TablesMut::held_guard), [`begins_tablet`](TablesMut::begins_tablet),
 //! [`find_interval`](TablesMut::find_interval) and [`read_store`](TablesMut::read_store) tell what stands in them; `Tables` has the same.
 //!
+//! # Share of reads from memory
+//!
+//! A step counts the read that it answers, for the player who asked: [`TablesMut::counts`] tells how many there were and how many of them came
+//! from memory, [`TablesMut::share`] the [`Share`] of these in thousandths, or [`Refusal::NoAnsweredRead`]; `Tables` has both. Previews count
+//! nothing.
+//!
 //! # Places for requests
 //!
 //! At most [`REQUESTS`] requests are in flight. Each player has [`OWN_PLACES`] places of its own, so that one player's delayed writes do not

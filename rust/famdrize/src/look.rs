@@ -125,8 +125,8 @@ mod tests {
     use super::*;
     use crate::{Range, Reply, Step, BARRED, OPEN_GUARD};
 
-    /// Tables after some steps: player 3 owns 40 to 59 and has guard 2 over 40 to 49, where entry 45 has version 3 and value 7; a tablet
-    /// begins at 128, and restarted.
+    /// Tables after some steps: player 3 owns 40 to 59 and has guard 2 over 40 to 49, where entry 45 has version 3 and value 7, which it has
+    /// read from memory; a tablet begins at 128, and restarted.
     fn stepped(tables: &mut TablesMut<'_>) {
         let player = Player::new(3).unwrap();
         let range = |low, high| Range::new(low, high).unwrap();
@@ -140,6 +140,7 @@ mod tests {
             },
             Reply::Committed { serial: 3, value },
         );
+        let (read, version) = (Step::Read { player, entry }, 3);
         for (step, reply) in [
             (
                 Step::Assign {
@@ -160,6 +161,7 @@ mod tests {
             (write, issued(3)),
             (Step::Deliver { serial: 3 }, Reply::Done),
             (Step::Respond { serial: 3 }, committed),
+            (read, Reply::CacheRead { version, value }),
             (
                 Step::Release {
                     range: range(255, 256),
@@ -183,7 +185,16 @@ mod tests {
             assert_eq!(tables.begins_tablet(entry), entry == 0);
             assert!(Player::all().all(|player| tables.held_guard(player, entry) == 0));
         }
+        let counted = |tables: &TablesMut<'_>, player| {
+            let counts = tables.counts(player);
+            (counts.answered, counts.from_memory)
+        };
+        assert!(Player::all().all(|player| counted(&tables, player) == (0, 0)));
         stepped(&mut tables);
+        for player in Player::all() {
+            let reads = u32::from(player == three);
+            assert_eq!(counted(&tables, player), (reads, reads));
+        }
         let owned = |entry: u8| (40..60).contains(&entry);
         let guarded = |entry: u8| (40..50).contains(&entry);
         for entry in 0..=255 {
@@ -220,6 +231,10 @@ mod tests {
         stepped(&mut lent);
         let mut owned = crate::Tables::fresh();
         stepped(&mut owned.lend());
+        for player in Player::all() {
+            assert_eq!(owned.counts(player), lent.counts(player));
+            assert_eq!(owned.share(player), lent.share(player));
+        }
         for entry in 0..=255 {
             assert_eq!(owned.owner(entry), lent.owner(entry));
             assert_eq!(owned.epoch(entry), lent.epoch(entry));

@@ -209,14 +209,25 @@ mod tests {
             Tables::from_words(store.clone(), vec![]),
             Err(Refusal::TableLength)
         );
-        assert_eq!(
-            Tables::from_words(store.clone(), vec![0; 9474]),
-            Err(Refusal::TableLength)
-        );
+        // one word more; as many as before the read counters
+        for words in [9490, 9473] {
+            let mut other = players.clone();
+            other.resize(words, 0);
+            assert_eq!(
+                Tables::from_words(store.clone(), other),
+                Err(Refusal::TableLength)
+            );
+        }
         let mut owners = players.clone();
         owners[1] = 9;
         assert_eq!(
             Tables::from_words(store.clone(), owners),
+            Err(Refusal::TableRules)
+        );
+        let mut counters = players.clone();
+        counters[9474] = 1;
+        assert_eq!(
+            Tables::from_words(store.clone(), counters),
             Err(Refusal::TableRules)
         );
         let mut boundaries = store;
@@ -546,6 +557,8 @@ mod tests {
         let mut session = Session::new();
         let (mut seed, mut codes) = (7, [false; 64]);
         let mut replies = vec![];
+        // answered reads of each player, and those from memory, by the replies
+        let mut reads = [[0; 2]; 8];
         let mut take = |owned: &mut Tables, fields: Fields| {
             let before = owned.clone();
             let previewed = owned.preview_fields(fields);
@@ -554,12 +567,29 @@ mod tests {
             let reply = owned.step_fields(fields);
             assert_eq!(reply, previewed, "{fields}");
             assert_eq!(lent.step_fields(fields), reply, "{fields}");
+            let (reader, counts) = match reply {
+                Reply::CacheRead { .. } => (fields.player, [1, 1]),
+                Reply::StoreRead { .. } => {
+                    let mut sent = before.requests().into_iter();
+                    let read = sent.find(|request| request.serial == fields.serial);
+                    (read.unwrap().player, [1, 0])
+                }
+                _ => (0, [0, 0]),
+            };
+            for (read, count) in reads[usize::from(reader)].iter_mut().zip(counts) {
+                *read += count;
+            }
             assert_eq!(lent.store_words(), owned.store_words());
             assert_eq!(lent.players_words(), owned.players_words());
             assert_eq!(lent.requests()[..], owned.requests());
             assert_eq!(lent.last_serial(), owned.last_serial());
             for player in Player::all() {
                 assert_eq!(lent.pending(player), owned.pending(player));
+                assert_eq!(lent.share(player), owned.share(player));
+                for counts in [lent.counts(player), owned.counts(player)] {
+                    let counted = [counts.answered, counts.from_memory];
+                    assert_eq!(counted, reads[usize::from(player.number())], "{fields}");
+                }
             }
             assert_eq!(owned.lend(), lent);
             codes[reply.numbers()[0] as usize] = true;
@@ -590,6 +620,9 @@ mod tests {
         for code in [26, 27, 28, 29, 30, 31, 32, 35, 38] {
             assert!(codes[code], "{code} was not seen");
         }
+        // of every player the store answered some, and from memory came some of somebody's
+        assert!(reads.iter().all(|[answered, hits]| hits < answered));
+        assert!(reads.iter().any(|[_, hits]| *hits > 0));
 
         // by a run too
         let (mut store, mut players) = ([0; STORE_WORDS], [0; PLAYERS_WORDS]);
