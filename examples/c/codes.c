@@ -33,6 +33,7 @@ int main(void)
     printf("most records of a session: %d\n", FAMDRIZE_SESSION_RECORDS);
     printf("most records of a preview: %d\n", FAMDRIZE_PREVIEW_RECORDS);
     printf("last serial: %d\n", FAMDRIZE_LAST_SERIAL);
+    printf("highest count of reads: %u\n", FAMDRIZE_LAST_COUNT);
     printf("an open guard: %u\n", FAMDRIZE_OPEN_GUARD);
     printf("barred: %u\n", FAMDRIZE_BARRED);
     printf("the loader: %d\n", FAMDRIZE_LOADER);

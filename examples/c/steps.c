@@ -121,6 +121,37 @@ static void places(void)
     print("read of player 0", step(FAMDRIZE_READ, 0, 45, 0, 0, 0));
 }
 
+static famdrize_reply share(uint8_t player)
+{
+    return famdrize_share(store, FAMDRIZE_STORE_WORDS, players, FAMDRIZE_PLAYERS_WORDS, player);
+}
+
+/* How often a player spares the store: player 0 reads three times, once from the store and twice from memory. Asking alters nothing. */
+static void shares(void)
+{
+    famdrize_reply r;
+
+    famdrize_fresh(store, FAMDRIZE_STORE_WORDS, players, FAMDRIZE_PLAYERS_WORDS);
+    step(FAMDRIZE_ASSIGN, 0, 40, 60, 0, 0);
+    step(FAMDRIZE_REQUEST_GUARD, 0, 40, 60, 0, 0);
+    step(FAMDRIZE_DELIVER, 0, 0, 0, 0, 2);
+    step(FAMDRIZE_RESPOND, 0, 0, 0, 0, 2);
+    print("read", step(FAMDRIZE_READ, 0, 45, 0, 0, 0));
+    print("deliver", step(FAMDRIZE_DELIVER, 0, 0, 0, 0, 3));
+    print("share of player 0", share(0)); /* the read is not answered yet */
+    print("respond", step(FAMDRIZE_RESPOND, 0, 0, 0, 0, 3));
+    print("share of player 0", share(0));
+    print("read", step(FAMDRIZE_READ, 0, 45, 0, 0, 0));
+    print("share of player 0", share(0));
+    print("read", step(FAMDRIZE_READ, 0, 45, 0, 0, 0));
+    r = share(0);
+    print("share of player 0", r);
+    printf("that is %u.%u %%\n", (unsigned)(r.a / 10), (unsigned)(r.a % 10));
+    print("share of player 1", share(1));
+    print("share of the loader", share(FAMDRIZE_LOADER));
+    print("share of player 8, one word less", famdrize_share(store, FAMDRIZE_STORE_WORDS, players, FAMDRIZE_PLAYERS_WORDS - 1, 8));
+}
+
 static void store_alone(void)
 {
     print("fresh", famdrize_store_fresh(store, FAMDRIZE_STORE_WORDS));
@@ -200,6 +231,8 @@ int main(void)
     run_previews();
     puts("places for requests");
     places();
+    puts("reads from memory");
+    shares();
     puts("the store alone");
     store_alone();
     puts("records");

@@ -1,9 +1,9 @@
 //! The words for every code of a reply or refusal, and for every reason for which a run stops; the
 //! numbers that the crate names. codes.txt is what it prints.
 
-use famdrize::{Reply, Why, BARRED, COMMON_PLACES, LOADER, MOST_RECORDS, OPEN_GUARD, OWN_PLACES};
+use famdrize::{Reply, Why, BARRED, COMMON_PLACES, LAST_COUNT, LOADER, MOST_RECORDS, OPEN_GUARD};
 use famdrize::{
-    PLAYERS_WORDS, PREVIEW_RECORDS, RECORD_BYTES, REQUESTS, SESSION_BYTES, STORE_WORDS,
+    OWN_PLACES, PLAYERS_WORDS, PREVIEW_RECORDS, RECORD_BYTES, REQUESTS, SESSION_BYTES, STORE_WORDS,
 };
 
 fn main() {
@@ -30,6 +30,7 @@ fn main() {
     println!("bytes of the longest record: {RECORD_BYTES}");
     println!("most records of a session: {MOST_RECORDS}");
     println!("most records of a preview: {PREVIEW_RECORDS}");
+    println!("highest count of reads: {LAST_COUNT}");
     println!("an open guard: {OPEN_GUARD}");
     println!("barred: {BARRED}");
     println!("the loader: {LOADER}");
