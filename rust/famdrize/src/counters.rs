@@ -7,7 +7,7 @@ use crate::{raw, Player, Refusal, PLAYERS_WORDS, STORE_WORDS};
 /// The highest count of a read counter: a read that would carry one of its player's counts above it leaves both as they are.
 pub const LAST_COUNT: u32 = 4_000_000_000;
 
-/// The first word of the counters in the players' table, two for each player.
+/// The first word of the counters in the players' table: of each player the answered reads, and the word after it those from memory.
 const REGION: usize = 9473;
 
 /// The answered reads of a player, since the tables were made fresh. A step counts them, alone or in a run; a player's restart leaves them.
@@ -26,7 +26,7 @@ pub struct Counts {
 /// remainder says nothing without the answered reads that it is of ([`Counts::answered`]).
 ///
 /// ```
-/// use famdrize::{Player, Refusal, Reply, Step, TablesMut};
+/// use famdrize::{Player, Refusal, Step, TablesMut};
 /// # let (mut store, mut players) = ([0; famdrize::STORE_WORDS], [0; famdrize::PLAYERS_WORDS]);
 /// # let mut tables = TablesMut::fresh(&mut store, &mut players);
 ///
@@ -132,10 +132,10 @@ mod tests {
         Reply::Issued { serial }
     }
 
-    /// A read of entry 45, whose answer has the serial: three steps, with version and value of the store.
-    fn read_store(tables: &mut TablesMut<'_>, number: u8, serial: u32, stored: (u32, u32)) {
+    /// A read of entry 45, which holds nothing written, answered by the store: request `serial`.
+    fn read_store(tables: &mut TablesMut<'_>, number: u8, serial: u32) {
         let (player, entry) = (player(number), 45);
-        let (version, value) = stored;
+        let (version, value) = (0, 0);
         take(
             tables,
             [
@@ -149,10 +149,10 @@ mod tests {
         );
     }
 
-    /// A read of entry 45 from memory.
-    fn read_memory(tables: &mut TablesMut<'_>, number: u8, stored: (u32, u32)) {
+    /// The same from memory.
+    fn read_memory(tables: &mut TablesMut<'_>, number: u8) {
         let (player, entry) = (player(number), 45);
-        let (version, value) = stored;
+        let (version, value) = (0, 0);
         let reply = Reply::CacheRead { version, value };
         take(tables, [(Step::Read { player, entry }, reply)]);
     }
@@ -179,15 +179,15 @@ mod tests {
         for number in 0..8 {
             assert_eq!(told(&tables, number), NONE);
         }
-        read_store(&mut tables, 3, 3, (0, 0));
+        read_store(&mut tables, 3, 3);
         assert_eq!(told(&tables, 3), ((1, 0), Ok((0, 0))));
-        read_memory(&mut tables, 3, (0, 0));
+        read_memory(&mut tables, 3);
         assert_eq!(told(&tables, 3), ((2, 1), Ok((500, 0))));
-        read_memory(&mut tables, 3, (0, 0));
+        read_memory(&mut tables, 3);
         assert_eq!(told(&tables, 3), ((3, 2), Ok((666, 2))));
         // player 4 owns nothing, and remembers nothing
-        read_store(&mut tables, 4, 4, (0, 0));
-        read_store(&mut tables, 4, 5, (0, 0));
+        read_store(&mut tables, 4, 4);
+        read_store(&mut tables, 4, 5);
         assert_eq!(told(&tables, 4), ((2, 0), Ok((0, 0))));
         assert_eq!(told(&tables, 3), ((3, 2), Ok((666, 2))));
         for number in [0, 1, 2, 5, 6, 7] {
@@ -200,13 +200,13 @@ mod tests {
         let (mut store, mut players) = fresh();
         let mut tables = TablesMut::check(&mut store, &mut players).unwrap();
         guarded(&mut tables, 0);
-        read_store(&mut tables, 0, 3, (0, 0));
-        read_memory(&mut tables, 0, (0, 0));
+        read_store(&mut tables, 0, 3);
+        read_memory(&mut tables, 0);
         // without its guard it asks the store, and goes on counting
         let restart = Step::RestartPlayer { player: player(0) };
         take(&mut tables, [(restart, Reply::Done)]);
         assert_eq!(told(&tables, 0), ((2, 1), Ok((500, 0))));
-        read_store(&mut tables, 0, 4, (0, 0));
+        read_store(&mut tables, 0, 4);
         assert_eq!(told(&tables, 0), ((3, 1), Ok((333, 1))));
         assert_eq!(tables.share(player(0)).unwrap().to_string(), "33.3 %");
     }
@@ -266,7 +266,7 @@ mod tests {
         let reply = Reply::CacheRead { version: 3, value };
         assert_eq!(tables.preview(read), reply);
         assert_eq!(told(&tables, 0), NONE);
-        read_memory(&mut tables, 0, (3, 7));
+        take(&mut tables, [(read, reply)]);
         assert_eq!(told(&tables, 0), ((1, 1), Ok((1000, 0))));
         assert_eq!(tables.share(player).unwrap().to_string(), "100.0 %");
     }
@@ -354,17 +354,17 @@ mod tests {
         // two below the last: one read from the store and one from memory go in, and no more
         players[9473..9475].copy_from_slice(&[3_999_999_998, 5]);
         let mut tables = TablesMut::check(&mut store, &mut players).unwrap();
-        read_store(&mut tables, 0, 3, (0, 0));
+        read_store(&mut tables, 0, 3);
         assert_eq!(told(&tables, 0).0, (3_999_999_999, 5));
-        read_memory(&mut tables, 0, (0, 0));
+        read_memory(&mut tables, 0);
         assert_eq!(told(&tables, 0).0, (4_000_000_000, 6));
-        read_memory(&mut tables, 0, (0, 0));
+        read_memory(&mut tables, 0);
         assert_eq!(told(&tables, 0).0, (4_000_000_000, 6));
         take(
             &mut tables,
             [(Step::RestartPlayer { player: player(0) }, Reply::Done)],
         );
-        read_store(&mut tables, 0, 4, (0, 0));
+        read_store(&mut tables, 0, 4);
         assert_eq!(told(&tables, 0).0, (4_000_000_000, 6));
         assert_eq!(LAST_COUNT, 4_000_000_000);
     }
