@@ -149,7 +149,9 @@ static void shares(void)
     printf("that is %u.%u %%\n", (unsigned)(r.a / 10), (unsigned)(r.a % 10));
     print("share of player 1", share(1));
     print("share of the loader", share(FAMDRIZE_LOADER));
-    print("share of player 8, one word less", famdrize_share(store, FAMDRIZE_STORE_WORDS, players, FAMDRIZE_PLAYERS_WORDS - 1, 8));
+    players[0] = FAMDRIZE_LAST_SERIAL + 1;
+    print("share of the loader, a rule broken", share(FAMDRIZE_LOADER));
+    print("and one word less", famdrize_share(store, FAMDRIZE_STORE_WORDS, players, FAMDRIZE_PLAYERS_WORDS - 1, FAMDRIZE_LOADER));
 }
 
 static void store_alone(void)
