@@ -30,6 +30,9 @@ const AHEAD: u8 = b'a';
 // `check`: a test of the tables, a run over a session without records and its preview, and whether each table is what it was.
 const CHECK: u8 = b'c';
 
+// `memory PLAYER`: the share of the player's reads that came from memory.
+const MEMORY: u8 = b'm';
+
 // `reads TIMES PLAYER`: the player, 0 where none is named, reads entry 0 so many times; nothing is printed.
 const READS: u8 = b'r';
 
@@ -76,6 +79,7 @@ fn call(line: Line, store: &mut [u32; STORE], players: &mut [u32; PLAYERS]) {
         KEEP => take(n, KEEP, store, players),
         AHEAD => take(n, AHEAD, store, players),
         CHECK => trial::same_check(store, players),
+        MEMORY => trial::share(store, players, (n[0] % 256) as u8),
         READS => trial::reads(store, players, n[0], (n[1] % 256) as u8),
         STORE_WORD => trial::put(store, n[0], n[1]),
         PLAYERS_WORD => trial::put(players, n[0], n[1]),

@@ -21,7 +21,7 @@ pub(crate) fn byte(b: u8) {
 }
 
 // A number after a space.
-fn number(n: u32) {
+pub(crate) fn number(n: u32) {
     say(b" ");
     io::print_decimal(1, n as u64);
 }

@@ -25,6 +25,12 @@ pub(crate) fn step(store: &mut [u32; STORE], players: &mut [u32; PLAYERS], next:
     show::say(b"\n");
 }
 
+// The share of the player's reads that came from memory.
+pub(crate) fn share(store: &[u32], players: &[u32], player: u8) {
+    share_shown(store, players, player);
+    show::say(b"\n");
+}
+
 // The player reads entry 0 so many times; nothing is shown.
 pub(crate) fn reads(
     store: &mut [u32; STORE],
@@ -97,6 +103,13 @@ fn preview_shown(store: &[u32], players: &[u32], next: Step) {
     show::reply(previews::preview(store, players, next));
 }
 
+// A player and the share of its reads that came from memory.
+fn share_shown(store: &[u32], players: &[u32], player: u8) {
+    show::say(b"memory");
+    show::number(player as u32);
+    show::reply(players::share(store, players, player));
+}
+
 // Lends the first words alone, of tables in which every word is 7, and says whether each table is what it was.
 pub(crate) fn same_part(
     store: &mut [u32; STORE],
@@ -126,7 +139,7 @@ fn part(store: &mut [u32], n: usize, players: &mut [u32], m: usize) {
     both(&mut store[0..n], &mut players[0..m]);
 }
 
-// Makes tables fresh, takes two steps and previews one.
+// Makes tables fresh, takes two steps, previews one, and asks for a share.
 fn both(store: &mut [u32], players: &mut [u32]) {
     show::say(b", fresh");
     show::reply(players::fresh(store, players));
@@ -134,6 +147,8 @@ fn both(store: &mut [u32], players: &mut [u32]) {
     then(store, players, Step::FindInterval { entry: 9 });
     show::say(b", ");
     preview_shown(store, players, Step::Split { entry: 9 });
+    show::say(b", ");
+    share_shown(store, players, 0);
 }
 
 // Takes a step after other calls of the line.
