@@ -73,9 +73,9 @@ pub fn check(store: &[u32], players: &[u32]) -> Reply
 pub fn share(store: &[u32], players: &[u32], player: u8) -> Reply
     ensures { λ r. ⌜ r ≡ shared player (now (store .entry)) (now (players .entry)) ⌝ }
 {
-    let tested = check(store, players);
-    if tested.code != 0 {
-        return tested;
+    let checked = check(store, players);
+    if checked.code != 0 {
+        return checked;
     }
     counters::region::share(&players[layout::COUNTERS..layout::COUNTERS_END], player)
 }
