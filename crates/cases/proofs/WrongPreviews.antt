@@ -11,6 +11,8 @@ use Rattle.store.specs.Model.{unbroken, tablet-first, tablet-end}
 use Rattle.store.specs.Table.{part as part-of, seek, guardAt, storeOf, coded, laid, listed, tableOf as store-table, at-most, guard-holds, rising, intervals, boundaries, valid as valid-store}
 use Rattle.store.specs.declared.Reply.{Reply}
 use Rattle.requests.specs.Region.{requestOf, requestsFrom, requestsOf, placed, fields-hold, outcome-holds, request-holds, words-fit, places-hold, valid as valid-requests}
+use Rattle.counters.specs.Model.{counted as counted-read, counted-by}
+use Rattle.counters.specs.Region.{countsOf, words-from, regionOf as counter-region, all-sound, valid as valid-counters}
 use Rattle.players.specs.declared.Step.{Step}
 use Rattle.players.specs.declared.Step.the-variants.{Assign, Read, Deliver, Split}
 use Rattle.players.specs.Regions.{region}
@@ -60,7 +62,7 @@ preview-rows :
     ∷ previewed (Split 5) broken-store (players-after [])
     ∷ [])
     ≡ (1 ∷ []) ∷ (32 ∷ []) ∷ (0 ∷ []) ∷ (2 ∷ []) ∷ (22 ∷ []) ∷ []
-unfolding unbroken tablet-first tablet-end seek guardAt requestOf requestsFrom requestsOf fields-hold outcome-holds request-holds words-fit cell region at-most cached-holds cached-all placed places-hold valid-requests boundaries intervals rising guard-holds coded laid valid valid-players valid-store stateOf storeOf part-of store-table tableOf listed state-after
+unfolding unbroken tablet-first tablet-end seek guardAt requestOf requestsFrom requestsOf fields-hold outcome-holds request-holds words-fit cell region at-most cached-holds cached-all placed places-hold valid-requests countsOf words-from counter-region all-sound valid-counters counted-read counted-by boundaries intervals rising guard-holds coded laid valid valid-players valid-store stateOf storeOf part-of store-table tableOf listed state-after
 preview-rows = refl
 
 module _ (f : Previewing) (k : KeepsPreview f) where
@@ -122,7 +124,7 @@ run-preview-rows :
     map (λ (p : RunPreview). p .report .why ∷ p .report .records ∷ getD (p .list) 1 0 ∷ getD (p .list) 4 0 ∷ [])
     (previewed-run (store-after []) (players-after []) two-reads 9 three-places ∷ previewed-run (store-after []) (players-after []) two-reads 17 three-places ∷ [])
     ≡ (0 ∷ 2 ∷ 1 ∷ 2 ∷ []) ∷ (0 ∷ 2 ∷ 1 ∷ 2 ∷ []) ∷ []
-unfolding fields-length record-length fields map-of step-of tested begins run-from unbroken tablet-first tablet-end seek guardAt requestOf requestsFrom requestsOf fields-hold outcome-holds request-holds words-fit cell region at-most cached-holds cached-all placed places-hold valid-requests boundaries intervals rising guard-holds coded laid valid valid-players valid-store stateOf storeOf part-of store-table tableOf listed state-after
+unfolding fields-length record-length fields map-of step-of tested begins run-from unbroken tablet-first tablet-end seek guardAt requestOf requestsFrom requestsOf fields-hold outcome-holds request-holds words-fit cell region at-most cached-holds cached-all placed places-hold valid-requests countsOf words-from counter-region all-sound valid-counters counted-read counted-by boundaries intervals rising guard-holds coded laid valid valid-players valid-store stateOf storeOf part-of store-table tableOf listed state-after
 run-preview-rows = refl
 
 long-budget : HandedRun (store-after []) (players-after []) two-reads 17 three-places

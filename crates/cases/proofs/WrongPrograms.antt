@@ -14,6 +14,8 @@ use Rattle.store.specs.Table.{part as part-of, seek, guardAt, storeOf, coded, l
 use Rattle.store.specs.declared.Reply.{Reply}
 use Rattle.requests.specs.Model.{loader}
 use Rattle.requests.specs.Region.{requestOf, requestsFrom, requestsOf, placed, fields-hold, outcome-holds, request-holds, words-fit, places-hold, valid as valid-requests}
+use Rattle.counters.specs.Model.{counted as counted-read, counted-by}
+use Rattle.counters.specs.Region.{countsOf, words-from, regionOf as counter-region, all-sound, valid as valid-counters}
 use Rattle.players.specs.declared.Step.{Step}
 use Rattle.players.specs.declared.Step.the-variants.{Assign, RequestGuard, Read, Deliver, Respond, Split, RestartTablet, FindInterval, Load}
 use Rattle.players.specs.Rules.{State, step, fresh}
@@ -90,7 +92,7 @@ read-answered = read-arrived ++ (Respond 3 ∷ [])
 -- ---- what is computed: the tables are words, and what the promise says of them
 
 pub words : Words (store-after []) × Words (players-after []) × Words (store-after asked) × Words (players-after asked) × Words (store-after read-arrived) × Words (players-after read-arrived) × Words (store-after read-answered) × Words (players-after read-answered)
-unfolding unbroken tablet-first tablet-end seek guardAt requestOf requestsFrom requestsOf fields-hold outcome-holds request-holds words-fit cell region at-most cached-holds cached-all placed places-hold valid-requests boundaries intervals rising guard-holds coded laid valid valid-players valid-store stateOf storeOf part-of store-table tableOf listed state-after
+unfolding unbroken tablet-first tablet-end seek guardAt requestOf requestsFrom requestsOf fields-hold outcome-holds request-holds words-fit cell region at-most cached-holds cached-all placed places-hold valid-requests countsOf words-from counter-region all-sound valid-counters counted-read counted-by boundaries intervals rising guard-holds coded laid valid valid-players valid-store stateOf storeOf part-of store-table tableOf listed state-after
 words = (tt, tt, tt, tt, tt, tt, tt, tt)
 
 pub fits : T (step-fits (Split 5)) × T (step-fits (Assign 0 (range 0 9))) × T (step-fits (Deliver 2)) × T (step-fits (Respond 3)) × T (step-fits (Read 0 1))
@@ -123,7 +125,7 @@ rows :
     ∷ (3 ∷ 0 ∷ 2 ∷ 3 ∷ 2 ∷ [])
     ∷ (2 ∷ 0 ∷ 2 ∷ 3 ∷ 2 ∷ [])
     ∷ []
-unfolding unbroken tablet-first tablet-end seek guardAt requestOf requestsFrom requestsOf fields-hold outcome-holds request-holds words-fit cell region at-most cached-holds cached-all placed places-hold valid-requests boundaries intervals rising guard-holds coded laid valid valid-players valid-store stateOf storeOf part-of store-table tableOf listed state-after
+unfolding unbroken tablet-first tablet-end seek guardAt requestOf requestsFrom requestsOf fields-hold outcome-holds request-holds words-fit cell region at-most cached-holds cached-all placed places-hold valid-requests countsOf words-from counter-region all-sound valid-counters counted-read counted-by boundaries intervals rising guard-holds coded laid valid valid-players valid-store stateOf storeOf part-of store-table tableOf listed state-after
 rows = refl
 
 -- the j-th number of the i-th row, counted from 0
@@ -193,7 +195,7 @@ abbrev guard-split : List Step
 guard-split = asked ++ (Deliver 2 ∷ Split 5 ∷ [])
 
 split-words : Words (store-after guard-split) × Words (players-after guard-split)
-unfolding unbroken tablet-first tablet-end seek guardAt requestOf requestsFrom requestsOf fields-hold outcome-holds request-holds words-fit cell region at-most cached-holds cached-all placed places-hold valid-requests boundaries intervals rising guard-holds coded laid valid valid-players valid-store stateOf storeOf part-of store-table tableOf listed state-after
+unfolding unbroken tablet-first tablet-end seek guardAt requestOf requestsFrom requestsOf fields-hold outcome-holds request-holds words-fit cell region at-most cached-holds cached-all placed places-hold valid-requests countsOf words-from counter-region all-sound valid-counters counted-read counted-by boundaries intervals rising guard-holds coded laid valid valid-players valid-store stateOf storeOf part-of store-table tableOf listed state-after
 split-words = (tt, tt)
 
 split-fits : T (step-fits (FindInterval 6)) × T (step-fits (FindInterval 10))
@@ -209,7 +211,7 @@ reach-rows :
     map reached (taken (FindInterval 6) (store-after guard-split) (players-after guard-split) ∷ taken (FindInterval 10) (store-after guard-split) (players-after guard-split) ∷ [])
     ++ ((getD (players-after guard-split) 0 0 ∷ getD (store-after guard-split) 5 0 ∷ []) ∷ map (storeOf (store-after guard-split) .guard) (6 ∷ 7 ∷ 8 ∷ 9 ∷ 10 ∷ []) ∷ [])
     ≡ (9 ∷ 0 ∷ 8 ∷ 2 ∷ []) ∷ (9 ∷ 9 ∷ 255 ∷ 2 ∷ []) ∷ (2 ∷ 1 ∷ []) ∷ (2 ∷ 2 ∷ 2 ∷ 0 ∷ 0 ∷ []) ∷ []
-unfolding unbroken tablet-first tablet-end interval-first interval-last seek guardAt requestOf requestsFrom requestsOf fields-hold outcome-holds request-holds words-fit cell region at-most cached-holds cached-all placed places-hold valid-requests boundaries intervals rising guard-holds coded laid valid valid-players valid-store stateOf storeOf part-of store-table tableOf listed state-after
+unfolding unbroken tablet-first tablet-end interval-first interval-last seek guardAt requestOf requestsFrom requestsOf fields-hold outcome-holds request-holds words-fit cell region at-most cached-holds cached-all placed places-hold valid-requests countsOf words-from counter-region all-sound valid-counters counted-read counted-by boundaries intervals rising guard-holds coded laid valid valid-players valid-store stateOf storeOf part-of store-table tableOf listed state-after
 reach-rows = refl
 
 module _ (f : Program) (k : Keeps f) where
@@ -283,7 +285,7 @@ abbrev load-arrived : List Step
 load-arrived = load-waits ++ (Deliver 4 ∷ [])
 
 load-words : Words (store-after load-waits) × Words (players-after load-waits) × Words (store-after load-arrived) × Words (players-after load-arrived)
-unfolding unbroken tablet-first tablet-end seek guardAt requestOf requestsFrom requestsOf fields-hold outcome-holds request-holds words-fit cell region at-most cached-holds cached-all placed places-hold valid-requests boundaries intervals rising guard-holds coded laid valid valid-players valid-store stateOf storeOf part-of store-table tableOf listed state-after
+unfolding unbroken tablet-first tablet-end seek guardAt requestOf requestsFrom requestsOf fields-hold outcome-holds request-holds words-fit cell region at-most cached-holds cached-all placed places-hold valid-requests countsOf words-from counter-region all-sound valid-counters counted-read counted-by boundaries intervals rising guard-holds coded laid valid valid-players valid-store stateOf storeOf part-of store-table tableOf listed state-after
 load-words = (tt, tt, tt, tt)
 
 load-fits : T (step-fits (Load 1 7)) × T (step-fits (Respond 4)) × T (step-fits (RestartTablet 1))
@@ -316,7 +318,7 @@ load-rows :
     ∷ map (request-word (players-after load-arrived) 1) (0 ∷ 1 ∷ 3 ∷ []) ∷ (storeOf (store-after load-waits) .guard 1 ∷ []) ∷ [])
     ≡ (1 ∷ 5 ∷ 0 ∷ 2 ∷ 2 ∷ 5 ∷ 0 ∷ 8 ∷ 5 ∷ 0 ∷ []) ∷ (5 ∷ 4 ∷ 0 ∷ 2 ∷ 2 ∷ 0 ∷ 0 ∷ 0 ∷ 0 ∷ 0 ∷ []) ∷ (0 ∷ 0 ∷ 0 ∷ 2 ∷ barred ∷ 0 ∷ 0 ∷ 0 ∷ 0 ∷ 0 ∷ []) ∷ (4 ∷ 1 ∷ 0 ∷ []) ∷ (4 ∷ 8 ∷ 5 ∷ 1 ∷ 0 ∷ [])
     ∷ (4 ∷ 8 ∷ 1 ∷ []) ∷ (2 ∷ []) ∷ []
-unfolding unbroken tablet-first tablet-end seek guardAt requestOf requestsFrom requestsOf fields-hold outcome-holds request-holds words-fit cell region at-most cached-holds cached-all placed places-hold valid-requests boundaries intervals rising guard-holds coded laid valid valid-players valid-store stateOf storeOf part-of store-table tableOf listed state-after
+unfolding unbroken tablet-first tablet-end seek guardAt requestOf requestsFrom requestsOf fields-hold outcome-holds request-holds words-fit cell region at-most cached-holds cached-all placed places-hold valid-requests countsOf words-from counter-region all-sound valid-counters counted-read counted-by boundaries intervals rising guard-holds coded laid valid valid-players valid-store stateOf storeOf part-of store-table tableOf listed state-after
 load-rows = refl
 
 module _ (f : Program) (k : Keeps f) where
@@ -445,7 +447,7 @@ run-rows :
     ∷ (1 ∷ 1 ∷ 0 ∷ 1 ∷ [])
     ∷ (1 ∷ 0 ∷ 0 ∷ 0 ∷ [])
     ∷ []
-unfolding fields-length record-length fields map-of step-of tested begins run-from unbroken tablet-first tablet-end seek guardAt requestOf requestsFrom requestsOf fields-hold outcome-holds request-holds words-fit cell region at-most cached-holds cached-all placed places-hold valid-requests boundaries intervals rising guard-holds coded laid valid valid-players valid-store stateOf storeOf part-of store-table tableOf listed state-after
+unfolding fields-length record-length fields map-of step-of tested begins run-from unbroken tablet-first tablet-end seek guardAt requestOf requestsFrom requestsOf fields-hold outcome-holds request-holds words-fit cell region at-most cached-holds cached-all placed places-hold valid-requests countsOf words-from counter-region all-sound valid-counters counted-read counted-by boundaries intervals rising guard-holds coded laid valid valid-players valid-store stateOf storeOf part-of store-table tableOf listed state-after
 run-rows = refl
 
 pub reads-handed : HandedRun (store-after []) (players-after []) two-reads 9 three-places
