@@ -2,7 +2,9 @@
 
 use calls::Range;
 
-use crate::numbers::{BARRED, COMMON_PLACES, LOADER, MAX_SERIAL, OPEN, OWN_PLACES, PLAYERS};
+use crate::numbers::{
+    BARRED, COMMON_PLACES, LOADER, MAX_COUNT, MAX_SERIAL, OPEN, OWN_PLACES, PLAYERS,
+};
 use crate::prng::Prng;
 use crate::request_words::{RequestWords, REQUEST_WORDS};
 use crate::state::{Cached, Operation, Request, State};
@@ -10,8 +12,8 @@ use crate::states::any_state;
 use crate::store::{GuardOutcome, Versioned, WriteOutcome};
 use crate::table_rules::TableRule;
 use crate::tables::{
-    tables_of, BOUNDARIES, CACHED_GUARDS, CACHED_VALUES, CACHED_VERSIONS, EPOCHS, HELD_GUARDS,
-    INTERVAL_GUARDS, INTERVAL_STARTS, LAST_SERIAL, OWNERS, REQUESTS, VERSIONS,
+    tables_of, BOUNDARIES, CACHED_GUARDS, CACHED_VALUES, CACHED_VERSIONS, COUNTERS, COUNTER_WORDS,
+    EPOCHS, HELD_GUARDS, INTERVAL_GUARDS, INTERVAL_STARTS, LAST_SERIAL, OWNERS, REQUESTS, VERSIONS,
 };
 
 /// The places of the requests in [`rich_state`].
@@ -304,7 +306,33 @@ fn break_by(rng: &mut Prng, rule: TableRule, above: impl Fn(u32) -> u32) -> (Vec
             let crowd = Crowd::ALL[rng.index(Crowd::ALL.len())];
             return crowded(rng, crowd, COMMON_PLACES + 1);
         }
+        TableRule::CounterHits | TableRule::CounterLimit => {
+            let player = [0, PLAYERS - 1, rng.index(PLAYERS)][rng.index(3)];
+            return break_counter(rng, rule, player);
+        }
     }
+    (store, players)
+}
+
+/// Tables in which the read counter of this player breaks a rule of counters, and that are right otherwise: more reads
+/// from memory than answered reads, both at most the limit; or a count above it, and no more reads from memory.
+pub fn break_counter(rng: &mut Prng, rule: TableRule, player: usize) -> (Vec<u32>, Vec<u32>) {
+    let (store, mut players) = tables_of(&rich_state(rng));
+    let [answered, hits] = match rule {
+        TableRule::CounterHits => {
+            let answered = [0, rng.below(9), MAX_COUNT - 1, rng.below(MAX_COUNT)][rng.index(4)];
+            let any = rng.between(answered + 1, MAX_COUNT);
+            [answered, [answered + 1, any, MAX_COUNT][rng.index(3)]]
+        }
+        _ => {
+            let above = MAX_COUNT + 1;
+            let answered = [above, rng.between(above, u32::MAX), u32::MAX][rng.index(3)];
+            let any = rng.below(answered);
+            [answered, [0, any, MAX_COUNT, answered][rng.index(4)]]
+        }
+    };
+    let at = COUNTERS + COUNTER_WORDS * player;
+    players[at..at + COUNTER_WORDS].copy_from_slice(&[answered, hits]);
     (store, players)
 }
 

@@ -1,8 +1,9 @@
 //! Switches that make the model wrong, one at a time.
 //!
-//! They show that the checks see something: each fault changes what some list of steps gives. Some
-//! break demand 3 on some list, as [`Fault::breaks_demand_3`] says, and some the promise of the first read
-//! from memory, as [`Fault::breaks_first_read`] says.
+//! They show that the checks see something: each fault changes what some call gives. Some break demand 3 on
+//! some list, as [`Fault::breaks_demand_3`] says, some the promise of the first read from memory, as
+//! [`Fault::breaks_first_read`] says, and some what is said of the read counters after a run, as
+//! [`Fault::breaks_counter_law`] says.
 
 /// What the rules ask about faults. The right rules have none: see [`NoFault`].
 pub trait Switches {
@@ -209,11 +210,81 @@ pub enum Fault {
     GrantMissesLastEntry,
     /// "last usable 4,000,000": it is never issued.
     LastSerialUnused,
+    /// "answered reads equals its replies 2 and 3": a reply 3 is not counted.
+    StoreReadUncounted,
+    /// "reads from memory its replies 2": a reply 3 is counted as from memory too.
+    StoreReadAsHit,
+    /// "to that player": a reply 3 is counted for the entry's owner, and not at all where nobody owns it.
+    StoreReadOfOwner,
+    /// "to that player": a reply 3 is counted for player 0, as step 7 names none.
+    StoreReadOfPlayer0,
+    /// "nothing is altered", as before document 02 §7: a reply 2 is not counted.
+    MemoryReadUncounted,
+    /// A reply 2 is counted as from memory, and not among the answered reads.
+    MemoryReadUnanswered,
+    /// A reply 2 is counted among the answered reads, and not as from memory.
+    MemoryReadAsMiss,
+    /// A read that is sent, reply 1, is counted as answered.
+    SentReadCounted,
+    /// A read that finds no place or no serial, 38 or 34, is counted as answered.
+    RefusedReadCounted,
+    /// A read that is given up after it arrived is counted as answered.
+    AbandonedReadCounted,
+    /// A reply 4 to a player is counted as an answered read.
+    WriteAnswerCounted,
+    /// Step 13 makes the player's counts zero.
+    RestartZeroesCounters,
+    /// "A run also keeps": a run leaves the counters as they were, and only single steps count.
+    RunLeavesCounters,
+    /// "a run begun with zero counts": every run makes the counts zero first.
+    RunBeginsAtZero,
+    /// "leaves both counts as they were": reads from memory are counted on where answered reads are at the limit.
+    HitsGoOn,
+    /// The same the other way: answered reads are counted on, above the limit, and those from memory are not.
+    AnsweredGoesOn,
+    /// A read that would carry a count to 4,000,000,000 leaves both counts as they were.
+    CountStopsEarly,
+    /// The limit is 4,000,000,001: of what is counted, and of the tables.
+    CountStopsLate,
+    /// What is counted has no limit.
+    CountUnlimited,
+    /// "more reads from memory than answered reads ... is 22": such tables are taken.
+    HitsUntested,
+    /// "a count above that limit, is 22": such tables are taken.
+    CountLimitUntested,
+    /// Tables are 22 in which all answered reads of a player came from memory.
+    EqualCountsRefused,
+    /// Tables that have a count of 4,000,000,000 are 22.
+    FullCounterRefused,
+    /// The test of the tables passes over the counter of player 7.
+    LastCounterUntested,
+    /// "in thousandths": the share is in hundredths.
+    ShareInHundredths,
+    /// "remainder of 1,000 × reads from memory": it is that of reads from memory.
+    ShareRemainderOfHits,
+    /// The quotient is the nearest one, up where two are as near.
+    ShareRounded,
+    /// The share is of the reads that did not come from memory.
+    ShareOfStoreReads,
+    /// 1,000 × reads from memory is cut to 32 bits.
+    ShareWraps,
+    /// 1,000 × reads from memory is 4,294,967,295 at the most.
+    ShareSaturates,
+    /// "39 when the player has no answered read": the share is 0 then.
+    NoReadShareZero,
+    /// "39 when the player has no answered read": also where none came from memory.
+    NoHitRefused,
+    /// "after 28": 39 for a player above 7, which has no answered read either.
+    NoReadBeforePlayer,
+    /// The share tests 28 before 21 and 22.
+    PlayerBeforeTables,
+    /// The share passes over the counters of the other players in its test of the tables.
+    AskedCounterAlone,
 }
 
 impl Fault {
     /// Every fault.
-    pub const ALL: [Fault; 84] = [
+    pub const ALL: [Fault; 119] = [
         Fault::ReadBesideWriteCached,
         Fault::LateGuardGranted,
         Fault::AbandonKeepsGuards,
@@ -298,6 +369,41 @@ impl Fault {
         Fault::BoundaryAtLowDivides,
         Fault::GrantMissesLastEntry,
         Fault::LastSerialUnused,
+        Fault::StoreReadUncounted,
+        Fault::StoreReadAsHit,
+        Fault::StoreReadOfOwner,
+        Fault::StoreReadOfPlayer0,
+        Fault::MemoryReadUncounted,
+        Fault::MemoryReadUnanswered,
+        Fault::MemoryReadAsMiss,
+        Fault::SentReadCounted,
+        Fault::RefusedReadCounted,
+        Fault::AbandonedReadCounted,
+        Fault::WriteAnswerCounted,
+        Fault::RestartZeroesCounters,
+        Fault::RunLeavesCounters,
+        Fault::RunBeginsAtZero,
+        Fault::HitsGoOn,
+        Fault::AnsweredGoesOn,
+        Fault::CountStopsEarly,
+        Fault::CountStopsLate,
+        Fault::CountUnlimited,
+        Fault::HitsUntested,
+        Fault::CountLimitUntested,
+        Fault::EqualCountsRefused,
+        Fault::FullCounterRefused,
+        Fault::LastCounterUntested,
+        Fault::ShareInHundredths,
+        Fault::ShareRemainderOfHits,
+        Fault::ShareRounded,
+        Fault::ShareOfStoreReads,
+        Fault::ShareWraps,
+        Fault::ShareSaturates,
+        Fault::NoReadShareZero,
+        Fault::NoHitRefused,
+        Fault::NoReadBeforePlayer,
+        Fault::PlayerBeforeTables,
+        Fault::AskedCounterAlone,
     ];
 
     /// Whether some list of steps breaks demand 3 with this fault. The others change replies or
@@ -336,64 +442,72 @@ impl Fault {
     ///   `MemoryReadAsksStore`, `SetGuardClearsOthers`, `GrantMissesLastEntry`: fewer guards are held or live,
     ///   or less is remembered, which is the safe side.
     /// - `AnyGuardRequestShares`, `LastSerialUnused`: a refused step changes nothing in the line.
+    /// - `StoreReadUncounted` and those after it, [`Fault::is_of_counters`]: no reply of a step depends on a read
+    ///   counter, so that nothing in the line does.
     pub fn breaks_demand_3(self) -> bool {
-        !matches!(
-            self,
-            Fault::RestartPlayerKeepsWrites
-                | Fault::RequestKeepsGuards
-                | Fault::GrantIgnoresEpochs
-                | Fault::RejectedKeepsGuards
-                | Fault::NeverCaches
-                | Fault::IntervalCutToTablet
-                | Fault::IntervalBeginsLate
-                | Fault::IntervalEndsEarly
-                | Fault::IntervalEndsBehind
-                | Fault::OpenAlone
-                | Fault::IntervalWithoutGuard
-                | Fault::IntervalTakesSerial
-                | Fault::BarredMatches
-                | Fault::BarredAlone
-                | Fault::LoadNeedsOwnership
-                | Fault::LoadNeedsOpenGuard
-                | Fault::LoadSerialFirst
-                | Fault::LoadOverlapped
-                | Fault::WriteMarksLoads
-                | Fault::LoadMarksRequests
-                | Fault::LoadOverlapsRequests
-                | Fault::LoadEmptiesCells
-                | Fault::RejectedLoadClears
-                | Fault::AbandonedLoadClears
-                | Fault::RestartPlayerAbandonsLoads
-                | Fault::LoaderRestarts
-                | Fault::AbandonedUncounted
-                | Fault::DeliveredUncounted
-                | Fault::OnlyUnderwayCounted
-                | Fault::LoaderHasOwnPlaces
-                | Fault::LoadsUncounted
-                | Fault::OthersUncounted
-                | Fault::SeventeenthLetIn
-                | Fault::SixteenthTurnedAway
-                | Fault::SixthTurnedAway
-                | Fault::SevenOwnPlaces
-                | Fault::AllTurnedAway
-                | Fault::OwnPlacesAlone
-                | Fault::NoShares
-                | Fault::SerialBeforePlace
-                | Fault::MemoryReadNeedsPlace
-                | Fault::OldNumber
-                | Fault::SharesUntested
-                | Fault::FullSharesRefused
-                | Fault::SharesOfPendingAlone
-                | Fault::RestartTabletClearsHeld
-                | Fault::AssignSetsEveryEpoch
-                | Fault::AnyWriteOverlapsReads
-                | Fault::AnyGuardRequestShares
-                | Fault::GrantAsksStore
-                | Fault::MemoryReadAsksStore
-                | Fault::SetGuardClearsOthers
-                | Fault::GrantMissesLastEntry
-                | Fault::LastSerialUnused
-        )
+        !self.is_of_counters()
+            && !matches!(
+                self,
+                Fault::RestartPlayerKeepsWrites
+                    | Fault::RequestKeepsGuards
+                    | Fault::GrantIgnoresEpochs
+                    | Fault::RejectedKeepsGuards
+                    | Fault::NeverCaches
+                    | Fault::IntervalCutToTablet
+                    | Fault::IntervalBeginsLate
+                    | Fault::IntervalEndsEarly
+                    | Fault::IntervalEndsBehind
+                    | Fault::OpenAlone
+                    | Fault::IntervalWithoutGuard
+                    | Fault::IntervalTakesSerial
+                    | Fault::BarredMatches
+                    | Fault::BarredAlone
+                    | Fault::LoadNeedsOwnership
+                    | Fault::LoadNeedsOpenGuard
+                    | Fault::LoadSerialFirst
+                    | Fault::LoadOverlapped
+                    | Fault::WriteMarksLoads
+                    | Fault::LoadMarksRequests
+                    | Fault::LoadOverlapsRequests
+                    | Fault::LoadEmptiesCells
+                    | Fault::RejectedLoadClears
+                    | Fault::AbandonedLoadClears
+                    | Fault::RestartPlayerAbandonsLoads
+                    | Fault::LoaderRestarts
+                    | Fault::AbandonedUncounted
+                    | Fault::DeliveredUncounted
+                    | Fault::OnlyUnderwayCounted
+                    | Fault::LoaderHasOwnPlaces
+                    | Fault::LoadsUncounted
+                    | Fault::OthersUncounted
+                    | Fault::SeventeenthLetIn
+                    | Fault::SixteenthTurnedAway
+                    | Fault::SixthTurnedAway
+                    | Fault::SevenOwnPlaces
+                    | Fault::AllTurnedAway
+                    | Fault::OwnPlacesAlone
+                    | Fault::NoShares
+                    | Fault::SerialBeforePlace
+                    | Fault::MemoryReadNeedsPlace
+                    | Fault::OldNumber
+                    | Fault::SharesUntested
+                    | Fault::FullSharesRefused
+                    | Fault::SharesOfPendingAlone
+                    | Fault::RestartTabletClearsHeld
+                    | Fault::AssignSetsEveryEpoch
+                    | Fault::AnyWriteOverlapsReads
+                    | Fault::AnyGuardRequestShares
+                    | Fault::GrantAsksStore
+                    | Fault::MemoryReadAsksStore
+                    | Fault::SetGuardClearsOthers
+                    | Fault::GrantMissesLastEntry
+                    | Fault::LastSerialUnused
+            )
+    }
+
+    /// Whether it is of the read counters or the share (document 02 §7).
+    pub fn is_of_counters(self) -> bool {
+        self >= Fault::StoreReadUncounted
     }
 
     /// Whether some interleaving breaks the promise of document 02 §6 with this fault: the player's guard or
@@ -423,5 +537,18 @@ impl Fault {
                 | Fault::GrantMissesLastEntry
                 | Fault::LastSerialUnused
         )
+    }
+
+    /// Whether some run begun with zero counts breaks what document 02 §7 says of its replies with this fault. No
+    /// fault of other rules does: it changes replies, and what is counted goes by them. Of the read counters these
+    /// do not:
+    ///
+    /// - `RunBeginsAtZero`: the counts are zero then.
+    /// - `HitsGoOn`, `AnsweredGoesOn`, `CountStopsEarly`, `CountStopsLate`, `CountUnlimited`: a session has at most
+    ///   5,460 records, so that from zero no count comes near the limit.
+    /// - `HitsUntested` and those after it: what steps count is right; only the test of the tables, or the share, is
+    ///   not.
+    pub fn breaks_counter_law(self) -> bool {
+        (Fault::StoreReadUncounted..=Fault::RunLeavesCounters).contains(&self)
     }
 }

@@ -199,6 +199,27 @@ impl Profile {
         }
     }
 
+    /// A new profile by which mostly guards are kept and reads are answered, from memory and from the store.
+    pub fn reading(rng: &mut Prng, kinds: u8) -> Profile {
+        let mut weights = WEIGHTS;
+        for (weight, kind) in weights.iter_mut().zip(1..) {
+            *weight = match kind {
+                4 => 4 * *weight,
+                5 => *weight / 8,
+                _ => *weight,
+            };
+        }
+        Profile {
+            weights,
+            by_owner: [60, 90][rng.index(2)],
+            steady: 98,
+            prompt: 60,
+            timeouts: 0,
+            reads: 30,
+            ..Profile::draw(rng, kinds)
+        }
+    }
+
     /// The next step for this state. Most steps fit something in it.
     pub fn next_step(&mut self, rng: &mut Prng, state: &State) -> Step {
         if self.longest_phase > 0 {

@@ -5,7 +5,7 @@ use calls::{Reply, Request};
 use crate::numbers::{MAX_REQUESTS, PLAYERS};
 use crate::reply::{code, Refusal};
 use crate::request_words::{RequestWords, REQUEST_WORDS};
-use crate::tables::REQUESTS;
+use crate::tables::{COUNTERS, PLAYERS_WORDS, REQUESTS};
 
 /// A place of the table as a record; none if a word is too large for its field.
 fn record(place: &[u32]) -> Option<Request> {
@@ -30,9 +30,11 @@ fn record(place: &[u32]) -> Option<Request> {
 /// The 64 places of a players' table as records. None if the table has another length, or a word that
 /// is too large for its field.
 pub fn records(players: &[u32]) -> Option<Vec<Request>> {
-    let places = players.get(REQUESTS..)?.chunks_exact(REQUEST_WORDS);
-    let records: Vec<Request> = places.map(record).collect::<Option<_>>()?;
-    (records.len() == MAX_REQUESTS).then_some(records)
+    if players.len() != PLAYERS_WORDS {
+        return None;
+    }
+    let places = players[REQUESTS..COUNTERS].chunks_exact(REQUEST_WORDS);
+    places.map(record).collect()
 }
 
 /// "one thin call counts a player's waiting rows (21 unless 64 places, then 28; nothing else is

@@ -1,6 +1,7 @@
 //! An independent model of document 01, "Guards, players and cached reads in a reel store", and of the
 //! requests of document 02 that are in force: §1, how far a guard reaches; §2, loading before opening;
-//! §4, trying a step first; §5, rows for everyone; §6, the first read from memory.
+//! §4, trying a step first; §5, rows for everyone; §6, the first read from memory; §7, share of reads from
+//! memory.
 //!
 //! It is written from the text of the documents alone, so that the proved library can be compared
 //! with it: reply for reply, and word for word of both tables. Sentences of document 01 stand in
@@ -15,6 +16,7 @@
 //! | row in flight, waiting | request, pending |
 //! | arrived, given up, turned back | delivered, abandoned, rejected |
 //! | the line | linearization order |
+//! | tally (document 02) | read counter |
 
 #![forbid(unsafe_code)]
 #![warn(missing_docs)]
@@ -22,6 +24,8 @@
 pub mod broken;
 pub mod claim;
 pub mod codec;
+pub mod counter_law;
+pub mod counters;
 pub mod faults;
 pub mod first_read;
 pub mod generate;

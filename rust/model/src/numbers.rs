@@ -19,6 +19,8 @@ pub const OWN_PLACES: usize = 6;
 pub const COMMON_PLACES: usize = 16;
 /// "One count of serials, 0 when fresh, last usable 4,000,000"
 pub const MAX_SERIAL: u32 = 4_000_000;
+/// Document 02 §7: "A read that would carry a count above 4,000,000,000".
+pub const MAX_COUNT: u32 = 4_000_000_000;
 /// Document 02 §2: "guard 0 is open and matches a carried 0".
 pub const OPEN: u32 = 0;
 /// Document 02 §2: "a restart sets a new mark, barred, that matches nothing. Barred differs from 0 and

@@ -68,6 +68,8 @@ pub enum Refusal {
     /// Document 02 §5: "38 when the player has 6 rows or more, or is the loader, and the 16 common rows
     /// are in use"
     NoPlaceLeft = 38,
+    /// Document 02 §7: "39 when the player has no answered read"
+    NoAnsweredRead = 39,
 }
 
 impl Refusal {

@@ -7,6 +7,7 @@
 
 use calls::{bit, Fields, Range, Reply, Step, KINDS};
 
+use crate::counters::{self, ReadCounter};
 use crate::faults::{Fault, NoFault, Switches};
 use crate::numbers::{Entries, BARRED, ENTRIES, LOADER, MAX_SERIAL, NOBODY, OPEN, PLAYERS};
 use crate::reply::{code, Refusal};
@@ -246,7 +247,8 @@ fn abandoned_guard(state: &State, player: u8, range: Range) -> Option<u32> {
 
 /// "4 read: if the cell is full, its guard equals the player's guard and that is live, the reply
 /// comes from memory and nothing is altered. Otherwise a row, carrying the live guard or 0,
-/// overlapped if a write by this player on this entry waits. Any player may read."
+/// overlapped if a write by this player on this entry waits. Any player may read." Since document 02 §7 a
+/// read from memory is counted, and nothing else is altered.
 fn read(
     state: &mut State,
     player: u8,
@@ -265,9 +267,12 @@ fn read(
         {
             return Err(Refusal::NoPlaceLeft);
         }
+        counters::from_memory(state, player, faults);
         return Ok(Reply::new(code::FROM_MEMORY, cached.version, cached.value));
     }
-    let serial = next_request(state, player, faults)?;
+    let serial = next_request(state, player, faults)
+        .inspect_err(|_| counters::mistaken(state, player, Fault::RefusedReadCounted, faults))?;
+    counters::mistaken(state, player, Fault::SentReadCounted, faults);
     let crosses = |r: &Request| !r.is_load() && r.is_pending() && r.writes(entry);
     let beside = write_pending(state, player, entry, faults)
         || faults.has(Fault::AnyWriteOverlapsReads) && state.requests.iter().any(crosses);
@@ -400,7 +405,8 @@ fn deliver(state: &mut State, serial: u32, faults: &impl Switches) -> Result<Rep
     Ok(Reply::DONE)
 }
 
-/// "7 answer reaches the player; the row leaves." A row "7 arrived and waiting" is needed.
+/// "7 answer reaches the player; the row leaves." A row "7 arrived and waiting" is needed. Since document 02 §7
+/// the answer to a read is counted.
 fn respond(state: &mut State, serial: u32, faults: &impl Switches) -> Result<Reply, Refusal> {
     let place = find(state, serial, |r| r.is_delivered() && r.is_pending())?;
     let Request {
@@ -423,6 +429,7 @@ fn respond(state: &mut State, serial: u32, faults: &impl Switches) -> Result<Rep
                 value,
             };
             cache(state, player, entry, overlapped, answer, faults);
+            counters::from_store(state, player, entry, faults);
             Ok(Reply::new(code::FROM_STORE, version, value))
         }
         Operation::Write {
@@ -441,7 +448,10 @@ fn respond(state: &mut State, serial: u32, faults: &impl Switches) -> Result<Rep
                 // Document 02 §2, of a load: "Its answer is 4 or 5 and no guard or cell follows from
                 // it."
                 _ if player == LOADER => mistaken_load(state, entry, answer, outcome, faults),
-                WriteOutcome::Committed => cache(state, player, entry, overlapped, answer, faults),
+                WriteOutcome::Committed => {
+                    cache(state, player, entry, overlapped, answer, faults);
+                    counters::mistaken(state, player, Fault::WriteAnswerCounted, faults);
+                }
                 WriteOutcome::Rejected if faults.has(Fault::RejectedKeepsGuards) => {}
                 WriteOutcome::Rejected => clear_guard(state, player, guard),
             }
@@ -551,6 +561,9 @@ fn abandon(state: &mut State, serial: u32, faults: &impl Switches) -> Result<Rep
         Operation::Write { guard, .. } if !faults.has(Fault::AbandonKeepsGuards) => {
             clear_guard(state, request.player, guard);
         }
+        Operation::Read { outcome, .. } if outcome.is_some() => {
+            counters::mistaken(state, request.player, Fault::AbandonedReadCounted, faults);
+        }
         _ => {}
     }
     Ok(Reply::DONE)
@@ -569,6 +582,9 @@ fn restart_player(state: &mut State, player: u8, faults: &impl Switches) -> Repl
         for entry in 0..ENTRIES {
             clear(state, player, entry);
         }
+    }
+    if faults.has(Fault::RestartZeroesCounters) {
+        state.counters[usize::from(player)] = ReadCounter::ZERO;
     }
     give_up(state, player, faults);
     Reply::DONE

@@ -3,7 +3,9 @@
 use calls::{Reply, Report, Step};
 
 use crate::codec::{decode, MARK, MAX_SESSION};
-use crate::faults::Switches;
+use crate::counters::ReadCounter;
+use crate::faults::{Fault, NoFault, Switches};
+use crate::numbers::PLAYERS;
 use crate::reply::Refusal;
 use crate::rules;
 use crate::state::State;
@@ -43,12 +45,31 @@ pub fn run(
     budget: u32,
     list: &mut [u32],
 ) -> Report {
-    let begin = tables::decode(store, players)
+    run_with(store, players, session, budget, list, &NoFault)
+}
+
+/// The same with a fault.
+pub fn run_with(
+    store: &mut [u32],
+    players: &mut [u32],
+    session: &[u8],
+    budget: u32,
+    list: &mut [u32],
+    faults: &impl Switches,
+) -> Report {
+    let begin = tables::decode_with(store, players, faults)
         .map_err(|error| error.refusal())
         .and_then(|state| test_session(session).map(|()| state));
     match begin {
         Ok(mut state) => {
-            let report = take_records(&mut state, session, budget, list);
+            let counters = state.counters;
+            if faults.has(Fault::RunBeginsAtZero) {
+                state.counters = [ReadCounter::ZERO; PLAYERS];
+            }
+            let report = take_records(&mut state, session, budget, list, faults);
+            if faults.has(Fault::RunLeavesCounters) {
+                state.counters = counters;
+            }
             tables::encode(&state, store, players);
             report
         }
@@ -69,7 +90,13 @@ fn test_session(session: &[u8]) -> Result<(), Refusal> {
 
 /// Takes the records of a session that [`test_session`] lets by. "That last refuses no run: earlier steps
 /// keep their effect. A refused step is taken and replied to; the run goes on."
-fn take_records(state: &mut State, session: &[u8], budget: u32, list: &mut [u32]) -> Report {
+fn take_records(
+    state: &mut State,
+    session: &[u8],
+    budget: u32,
+    list: &mut [u32],
+    faults: &impl Switches,
+) -> Report {
     let mut replies = list.chunks_exact_mut(REPLY_WORDS);
     let mut rest = session.get(MARK.len()..).unwrap_or(&[]);
     let mut records = 0;
@@ -88,7 +115,7 @@ fn take_records(state: &mut State, session: &[u8], budget: u32, list: &mut [u32]
             Ok(record) => record,
             Err(refusal) => break refusal.number(),
         };
-        let Reply { code, a, b } = rules::step(state, step);
+        let Reply { code, a, b } = rules::step_with(state, step, faults);
         words.copy_from_slice(&[code, a, b]);
         rest = rest.get(length..).unwrap_or(&[]);
         records += 1;

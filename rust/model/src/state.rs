@@ -2,6 +2,7 @@
 
 use calls::Range;
 
+use crate::counters::ReadCounter;
 use crate::numbers::{ENTRIES, LOADER, NOBODY, PLAYERS};
 use crate::store::{GuardOutcome, Store, Versioned, WriteOutcome};
 
@@ -111,6 +112,8 @@ pub struct State {
     pub cached: [[Cached; ENTRIES]; PLAYERS],
     /// The requests in flight, in rising serial, at most [`MAX_REQUESTS`](crate::numbers::MAX_REQUESTS).
     pub requests: Vec<Request>,
+    /// For each player its read counter (document 02 §7).
+    pub counters: [ReadCounter; PLAYERS],
 }
 
 impl State {
@@ -124,6 +127,7 @@ impl State {
             held: [[0; ENTRIES]; PLAYERS],
             cached: [[Cached::EMPTY; ENTRIES]; PLAYERS],
             requests: Vec::new(),
+            counters: [ReadCounter::ZERO; PLAYERS],
         }
     }
 }

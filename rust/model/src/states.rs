@@ -2,8 +2,9 @@
 
 use calls::{Range, Step};
 
+use crate::counters::ReadCounter;
 use crate::faults::NoFault;
-use crate::numbers::{BARRED, ENTRIES, LOADER, MAX_REQUESTS, MAX_SERIAL, OPEN, PLAYERS};
+use crate::numbers::{BARRED, ENTRIES, LOADER, MAX_COUNT, MAX_REQUESTS, MAX_SERIAL, OPEN, PLAYERS};
 use crate::prng::Prng;
 use crate::rules;
 use crate::shares;
@@ -36,7 +37,8 @@ fn fill_ranges<T: Copy>(rng: &mut Prng, items: &mut [T], mut draw: impl FnMut(&m
 }
 
 /// Any state that keeps the table rules: also such as no list of steps leads to, all common places
-/// taken, serials near the last one, 1 to 256 guard intervals, open and barred ones among them, loads.
+/// taken, serials near the last one, 1 to 256 guard intervals, open and barred ones among them, loads,
+/// counts at the limit and near it.
 pub fn any_state(rng: &mut Prng) -> State {
     let last_serial = match rng.below(5) {
         0 => rng.below(4),
@@ -45,10 +47,17 @@ pub fn any_state(rng: &mut Prng) -> State {
         3 => MAX_SERIAL,
         _ => rng.below(MAX_SERIAL + 1),
     };
-    any_state_at(rng, last_serial)
+    let mut state = any_state_at(rng, last_serial);
+    for entry in COMMON_ENTRIES {
+        if rng.chance(50) {
+            fill_cell(rng, &mut state, usize::from(entry));
+        }
+    }
+    state.counters = any_counters(rng);
+    state
 }
 
-/// Any such state with this last serial.
+/// Any such state with this last serial, and with zero counts.
 pub fn any_state_at(rng: &mut Prng, last_serial: u32) -> State {
     let pool = serial_pool(rng, last_serial);
     let serial = |rng: &mut Prng| pool[rng.index(pool.len())];
@@ -86,6 +95,18 @@ pub fn any_state_at(rng: &mut Prng, last_serial: u32) -> State {
     state
 }
 
+/// Any read counters that keep the rules: zeros, few reads, any number, and counts at the limit or a few reads below it.
+pub fn any_counters(rng: &mut Prng) -> [ReadCounter; PLAYERS] {
+    [ReadCounter::ZERO; PLAYERS].map(|_| {
+        let few = rng.below(4);
+        let numbers = [0, few, MAX_COUNT - few, MAX_COUNT, rng.below(MAX_COUNT)];
+        let answered = numbers[rng.index(numbers.len())];
+        let below = answered - few.min(answered);
+        let hits = [0, few.min(answered), rng.below(answered), below, answered][rng.index(5)];
+        ReadCounter { answered, hits }
+    })
+}
+
 /// How many requests a state has: with 16 loads, or 22 requests of one player, all common places are taken;
 /// with 64, all places.
 const REQUESTS: [u32; 10] = [0, 2, 10, 16, 21, 22, 40, 63, 64, 64];
@@ -115,7 +136,7 @@ fn senders(rng: &mut Prng, count: usize) -> Vec<u8> {
 
 /// A state that leaves no word unused: every player has a guard and a cached value for every entry, there
 /// are 64 requests of every kind, six of each player and 16 loads, some delivered, some given up, and 256
-/// guard intervals, and every entry begins a tablet and is owned.
+/// guard intervals, every entry begins a tablet and is owned, and every read counter is full.
 pub fn full_state() -> State {
     let mut state = State::fresh();
     state.last_serial = 1;
@@ -161,6 +182,10 @@ pub fn full_state() -> State {
             version: last,
             value: u32::MAX,
         });
+        state.counters[player] = ReadCounter {
+            answered: MAX_COUNT,
+            hits: MAX_COUNT - player as u32,
+        };
     }
     state
 }
@@ -172,6 +197,19 @@ pub(crate) fn make_live(rng: &mut Prng, state: &mut State, entry: usize) {
     state.owners[entry] = player;
     state.epochs[entry] = rng.below(guard);
     state.held[usize::from(player)][entry] = guard;
+}
+
+/// Where the entry's owner holds a guard, it has a value in its memory under it.
+fn fill_cell(rng: &mut Prng, state: &mut State, entry: usize) {
+    let owner = usize::from(state.owners[entry]);
+    let held = state.held.get(owner).map(|held| held[entry]);
+    if let Some(guard) = held.filter(|&guard| guard != 0) {
+        state.cached[owner][entry] = Cached {
+            guard,
+            version: rng.below(state.last_serial + 1),
+            value: rng.word(),
+        };
+    }
 }
 
 fn any_cached(rng: &mut Prng, serial: impl Fn(&mut Prng) -> u32) -> Cached {

@@ -87,11 +87,15 @@ pub enum TableRule {
     LoadOverlapped,
     /// Document 02 §5: "Tables breaking these shares are 22."
     RequestShares,
+    /// Document 02 §7: "A tally with more reads from memory than answered reads ... is 22."
+    CounterHits,
+    /// The same: "or a count above that limit".
+    CounterLimit,
 }
 
 impl TableRule {
     /// Every rule.
-    pub const ALL: [TableRule; 40] = [
+    pub const ALL: [TableRule; 42] = [
         TableRule::BoundaryBit,
         TableRule::FirstBoundary,
         TableRule::FirstInterval,
@@ -132,6 +136,8 @@ impl TableRule {
         TableRule::LoadGuard,
         TableRule::LoadOverlapped,
         TableRule::RequestShares,
+        TableRule::CounterHits,
+        TableRule::CounterLimit,
     ];
 }
 

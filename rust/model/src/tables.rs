@@ -6,6 +6,7 @@
 
 use calls::Reply;
 
+use crate::counters::ReadCounter;
 use crate::faults::{NoFault, Switches};
 use crate::numbers::{BARRED, ENTRIES, MAX_REQUESTS, MAX_SERIAL, NOBODY, PLAYERS};
 use crate::reply::Refusal;
@@ -18,7 +19,7 @@ use crate::table_rules::{bit, require, TableError, TableRule};
 /// Words of the store's table.
 pub const STORE_WORDS: usize = 1_280;
 /// Words of the players' table.
-pub const PLAYERS_WORDS: usize = 9_473;
+pub const PLAYERS_WORDS: usize = 9_489;
 
 /// Where the boundaries begin in the store's table.
 pub const BOUNDARIES: usize = 0;
@@ -47,6 +48,11 @@ pub const CACHED_VERSIONS: usize = 4_609;
 pub const CACHED_VALUES: usize = 6_657;
 /// Where the requests begin, 64 places of [`REQUEST_WORDS`] words.
 pub const REQUESTS: usize = 8_705;
+/// Where the read counters begin, [`COUNTER_WORDS`] words for each player.
+pub const COUNTERS: usize = 9_473;
+
+/// Words of a read counter: answered reads, and those of them answered from memory.
+pub const COUNTER_WORDS: usize = 2;
 
 /// The 256 words that begin at a place of a table.
 fn column(words: &[u32], begin: usize) -> Result<[u32; ENTRIES], TableError> {
@@ -169,6 +175,31 @@ fn decode_requests(
     Ok(requests)
 }
 
+/// The read counters of a players' table, whatever they hold.
+pub fn counters(players: &[u32]) -> [ReadCounter; PLAYERS] {
+    let mut counters = [ReadCounter::ZERO; PLAYERS];
+    let places = players[COUNTERS..].chunks_exact(COUNTER_WORDS);
+    for (counter, words) in counters.iter_mut().zip(places) {
+        *counter = ReadCounter {
+            answered: words[0],
+            hits: words[1],
+        };
+    }
+    counters
+}
+
+/// Tests the rule of each read counter.
+fn decode_counters(
+    players: &[u32],
+    faults: &impl Switches,
+) -> Result<[ReadCounter; PLAYERS], TableRule> {
+    let counters = counters(players);
+    for (player, counter) in (0..).zip(counters) {
+        counter.test(player, faults)?;
+    }
+    Ok(counters)
+}
+
 /// The state that the two tables hold: 21 for either, then 22 for either.
 pub fn decode(store: &[u32], players: &[u32]) -> Result<State, TableError> {
     decode_with(store, players, &NoFault)
@@ -204,7 +235,8 @@ pub fn decode_with(
         epochs: serials(players, EPOCHS, last_serial, TableRule::EpochSerial)?,
         held,
         cached,
-        requests: decode_requests(&players[REQUESTS..], last_serial, faults)?,
+        requests: decode_requests(&players[REQUESTS..COUNTERS], last_serial, faults)?,
+        counters: decode_counters(players, faults)?,
     })
 }
 
@@ -262,9 +294,14 @@ pub(crate) fn encode(state: &State, store: &mut [u32], players: &mut [u32]) {
             players[CACHED_VALUES + at] = cached.value;
         }
     }
-    let places = players[REQUESTS..].chunks_exact_mut(REQUEST_WORDS);
+    let (requests, counters) = players[REQUESTS..].split_at_mut(COUNTERS - REQUESTS);
+    let places = requests.chunks_exact_mut(REQUEST_WORDS);
     for (place, request) in places.zip(&state.requests) {
         place.copy_from_slice(&encode_request(request).words());
+    }
+    let places = counters.chunks_exact_mut(COUNTER_WORDS);
+    for (place, counter) in places.zip(&state.counters) {
+        place.copy_from_slice(&[counter.answered, counter.hits]);
     }
 }
 
@@ -303,5 +340,6 @@ pub fn check_with(store: &[u32], players: &[u32], faults: &impl Switches) -> Rep
     }
 }
 
-// The requests fill the table to its end.
-const _: () = assert!(REQUESTS + MAX_REQUESTS * REQUEST_WORDS == PLAYERS_WORDS);
+// The read counters stand behind the requests, and fill the table to its end.
+const _: () = assert!(REQUESTS + MAX_REQUESTS * REQUEST_WORDS == COUNTERS);
+const _: () = assert!(COUNTERS + PLAYERS * COUNTER_WORDS == PLAYERS_WORDS);

@@ -5,6 +5,7 @@ use calls::{Range, Reply, Step, KINDS};
 use model::broken::{crowded, Crowd};
 use model::claim::Sentence;
 use model::codec::session_text;
+use model::counters::{share, share_with, ReadCounter};
 use model::faults::{Fault, NoFault};
 use model::generate::Profile;
 use model::interleavings::Interleavings;
@@ -13,8 +14,10 @@ use model::prng::Prng;
 use model::rules::{step, step_with};
 use model::state::State;
 use model::store_calls;
-use model::tables::{check_with, fresh_tables, tables_of, REQUESTS, STORE_WORDS};
-use model::trial::{crowded_list, play, search, search_crowded};
+use model::tables::{check_with, fresh_tables, tables_of, COUNTERS, REQUESTS, STORE_WORDS};
+use model::trial::{
+    crowded_list, play, random_list, search, search_counters, search_crowded, ZeroRun,
+};
 
 use crate::support::*;
 
@@ -51,8 +54,11 @@ fn caught_by_demand_3() {
 #[test]
 fn caught_by_comparison_only() {
     for fault in Fault::ALL.into_iter().filter(|f| !f.breaks_demand_3()) {
-        assert!(search(seed(), 200_000 * scale(), &fault).is_none());
-        assert!(search_crowded(seed(), 200_000 * scale(), &fault).is_none());
+        // Those of the read counters change no reply of a step: see `counters_change_no_reply`.
+        if !fault.is_of_counters() {
+            assert!(search(seed(), 200_000 * scale(), &fault).is_none());
+            assert!(search_crowded(seed(), 200_000 * scale(), &fault).is_none());
+        }
         if is_unseen_from_fresh(fault) {
             continue;
         }
@@ -62,19 +68,21 @@ fn caught_by_comparison_only() {
 }
 
 /// Only the store used alone shows the first two, only tables with no serial left, or one, the next three, and
-/// only the test of tables the last three.
+/// only the test of tables the three after them; those of the read counters from `RunLeavesCounters` on only runs,
+/// counts at the limit, the test of tables, or the share.
 fn is_unseen_from_fresh(fault: Fault) -> bool {
-    matches!(
-        fault,
-        Fault::BarredMatches
-            | Fault::IntervalWithoutGuard
-            | Fault::LoadSerialFirst
-            | Fault::SerialBeforePlace
-            | Fault::LastSerialUnused
-            | Fault::SharesUntested
-            | Fault::FullSharesRefused
-            | Fault::SharesOfPendingAlone
-    )
+    fault >= Fault::RunLeavesCounters
+        || matches!(
+            fault,
+            Fault::BarredMatches
+                | Fault::IntervalWithoutGuard
+                | Fault::LoadSerialFirst
+                | Fault::SerialBeforePlace
+                | Fault::LastSerialUnused
+                | Fault::SharesUntested
+                | Fault::FullSharesRefused
+                | Fault::SharesOfPendingAlone
+        )
 }
 
 /// Crowded lists come to the places, so that demand 3 is tried where a fault of the shares does something: on
@@ -126,11 +134,47 @@ fn differs_after(fault: Fault) -> Option<usize> {
     None
 }
 
+/// No reply of a step depends on a read counter: with a fault of these, lists get the replies of the right rules, and
+/// lead to the same tables but for the counters. So demand 3 and the first read from memory are what they are.
+#[test]
+fn counters_change_no_reply() {
+    for fault in Fault::ALL.into_iter().filter(|f| f.is_of_counters()) {
+        let mut rng = Prng::new(seed());
+        for list in 0..200 * scale() {
+            let (history, mut state) = match list % 2 {
+                0 => random_list(&mut rng, &fault),
+                _ => crowded_list(&mut rng, &fault),
+            };
+            let steps: Vec<Step> = history.iter().map(|event| event.step).collect();
+            let (right, expected) = play(&steps, &NoFault);
+            assert_eq!(history, right, "{fault:?}");
+            state.counters = expected.counters;
+            assert!(state == expected, "{fault:?}");
+        }
+    }
+}
+
+/// The faults that break what document 02 §7 says of a run begun with zero counts, each with the number of random steps
+/// it took; the others break it on no run.
+#[test]
+fn caught_by_the_counter_law() {
+    for fault in Fault::ALL {
+        if !fault.breaks_counter_law() {
+            let found = search_counters(seed(), 10_000 * scale(), &fault);
+            assert_eq!(found, None, "{fault:?}");
+            continue;
+        }
+        let found = search_counters(seed(), 1_000_000, &fault);
+        let found = found.unwrap_or_else(|| panic!("{fault:?} is not caught"));
+        println!("{fault:?}: the counters are wrong after {found} steps");
+    }
+}
+
 /// The faults that break the promise of the first read from memory, each with the number of random interleavings it
 /// took, at most 109 with the default seed; the others break it on none.
 #[test]
 fn caught_by_the_first_read() {
-    for fault in Fault::ALL {
+    for fault in Fault::ALL.into_iter().filter(|f| !f.is_of_counters()) {
         let mut interleavings = Interleavings::new(seed(), KINDS);
         if !fault.breaks_first_read() {
             let found = interleavings.search(10_000 * scale(), &fault);
@@ -509,6 +553,287 @@ fn loads_that_break_demand_3() {
         assert_eq!(violation.sentence, sentence, "{fault:?}");
         let (history, state) = play(&steps, &NoFault);
         assert_eq!(model::claim::check(&history, &state.store), Ok(()));
+    }
+}
+
+/// What runs count with each fault that the law of the counters sees, by hand. In the first player 0 gets 3 and 2 on entry
+/// 45, 3 on entry 9, which nobody owns, and 4; it gives up a read that arrived; player 1 gets 3 on entry 45, and
+/// restarts. In the second a read of player 1 gets 38.
+#[test]
+fn mistaken_counts() {
+    let steps = then(&[
+        read(0, 45),
+        deliver(3),
+        respond(3),
+        read(0, 45),
+        read(0, 9),
+        deliver(4),
+        respond(4),
+        write(0, 46, 7),
+        deliver(5),
+        respond(5),
+        read(0, 47),
+        deliver(6),
+        abandon(6),
+        read(1, 45),
+        deliver(7),
+        respond(7),
+        restart_player(1),
+    ]);
+    let full = [vec![load(9, 5); 16], vec![read(1, 9); 7]].concat();
+    // The counters of players 0 and 1 after the first run.
+    let right = [counter(3, 1), counter(1, 0)];
+    let cases = [
+        (Fault::StoreReadUncounted, [counter(1, 1), counter(0, 0)]),
+        (Fault::StoreReadAsHit, [counter(3, 3), counter(1, 1)]),
+        // Nobody's for entry 9, and player 0's for that of player 1.
+        (Fault::StoreReadOfOwner, [counter(3, 1), counter(0, 0)]),
+        (Fault::StoreReadOfPlayer0, [counter(4, 1), counter(0, 0)]),
+        (Fault::MemoryReadUncounted, [counter(2, 0), counter(1, 0)]),
+        (Fault::MemoryReadUnanswered, [counter(2, 1), counter(1, 0)]),
+        (Fault::MemoryReadAsMiss, [counter(3, 0), counter(1, 0)]),
+        // Four reads are sent, three of them by player 0.
+        (Fault::SentReadCounted, [counter(6, 1), counter(2, 0)]),
+        (Fault::RefusedReadCounted, right),
+        (Fault::AbandonedReadCounted, [counter(4, 1), counter(1, 0)]),
+        (Fault::WriteAnswerCounted, [counter(4, 1), counter(1, 0)]),
+        (Fault::RestartZeroesCounters, [counter(3, 1), counter(0, 0)]),
+        (Fault::RunLeavesCounters, [counter(0, 0), counter(0, 0)]),
+    ];
+    let counted = |steps: &[Step], faults: Option<Fault>| {
+        let run = ZeroRun::new(State::fresh(), steps, &faults);
+        assert_eq!(run.history.len(), steps.len());
+        assert_eq!(run.history, play(steps, &NoFault).0);
+        (run.counters, run.keeps_law())
+    };
+    let (given, keeps_law) = counted(&steps, None);
+    assert_eq!((&given[..2], keeps_law), (&right[..], true));
+    for (fault, expected) in cases {
+        assert!(fault.breaks_counter_law());
+        let (given, keeps_law) = counted(&steps, Some(fault));
+        assert_eq!(given[..2], expected, "{fault:?}");
+        assert_eq!(keeps_law, expected == right, "{fault:?}");
+    }
+    assert_eq!(replies(&full)[22], refused(38));
+    assert_eq!(counted(&full, None).0[1], counter(0, 0));
+    let (given, keeps_law) = counted(&full, Some(Fault::RefusedReadCounted));
+    assert_eq!((given[1], keeps_law), (counter(1, 0), false));
+    // All that the law sees stand here.
+    let seen = Fault::ALL.into_iter().filter(|f| f.breaks_counter_law());
+    assert!(seen.eq(cases.map(|(fault, _)| fault)));
+    // And what a run begun with other counts does.
+    let counters = |faults: Option<Fault>| {
+        let mut start = State::fresh();
+        start.counters[0] = counter(5, 4);
+        ZeroRun::new(start, &steps, &faults).counters[0]
+    };
+    assert_eq!(counters(None), counter(8, 5));
+    assert_eq!(counters(Some(Fault::RunBeginsAtZero)), counter(3, 1));
+}
+
+/// The faults of the limit, by hand: what a read from memory, and one from the store, leaves of counts at 4,000,000,000 and
+/// one below.
+#[test]
+fn mistaken_limits() {
+    const LIMIT: u32 = 4_000_000_000;
+    let after = |before: ReadCounter, faults: Option<Fault>| {
+        let steps = then(&[read(0, 45), deliver(3), respond(3), read(0, 46), deliver(4)]);
+        let mut state = state_after(&steps);
+        state.counters[0] = before;
+        [read(0, 45), respond(4)].map(|next| {
+            let mut state = state.clone();
+            assert!(!step_with(&mut state, next, &faults).is_refusal());
+            state.counters[0]
+        })
+    };
+    let (at, below) = (counter(LIMIT, 7), counter(LIMIT - 1, 7));
+    let reached = [counter(LIMIT, 8), counter(LIMIT, 7)];
+    let above = [counter(LIMIT + 1, 8), counter(LIMIT + 1, 7)];
+    let cases = [
+        (None, [at; 2], reached),
+        (Some(Fault::HitsGoOn), [counter(LIMIT, 8), at], reached),
+        (Some(Fault::AnsweredGoesOn), [above[1]; 2], reached),
+        (Some(Fault::CountStopsEarly), [at; 2], [below; 2]),
+        (Some(Fault::CountStopsLate), above, reached),
+        (Some(Fault::CountUnlimited), above, reached),
+    ];
+    for (fault, of_full, of_last) in cases {
+        assert_eq!(after(at, fault), of_full, "{fault:?}");
+        assert_eq!(after(below, fault), of_last, "{fault:?}");
+    }
+    let above = [counter(LIMIT + 1, 0), counter(LIMIT + 2, 0)];
+    assert_eq!(after(above[0], Some(Fault::CountStopsLate))[1], above[0]);
+    assert_eq!(after(above[0], Some(Fault::CountUnlimited))[1], above[1]);
+}
+
+/// The faults in the test of the tables' counters, by hand.
+#[test]
+fn mistaken_counters_of_tables() {
+    const LIMIT: u32 = 4_000_000_000;
+    let tried = [
+        counter(1, 2),
+        counter(LIMIT + 1, 0),
+        counter(LIMIT + 2, 0),
+        counter(2, 2),
+        counter(LIMIT, 0),
+    ];
+    let given = |player: usize, faults: Option<Fault>| {
+        tried.map(|own| {
+            let (store, mut players) = fresh_tables();
+            players[COUNTERS + 2 * player] = own.answered;
+            players[COUNTERS + 2 * player + 1] = own.hits;
+            check_with(&store, &players, &faults).code
+        })
+    };
+    let right = [22, 22, 22, 0, 0];
+    for (fault, of_player_0, of_player_7) in [
+        (None, right, right),
+        (
+            Some(Fault::HitsUntested),
+            [0, 22, 22, 0, 0],
+            [0, 22, 22, 0, 0],
+        ),
+        (
+            Some(Fault::CountLimitUntested),
+            [22, 0, 0, 0, 0],
+            [22, 0, 0, 0, 0],
+        ),
+        (
+            Some(Fault::CountStopsLate),
+            [22, 0, 22, 0, 0],
+            [22, 0, 22, 0, 0],
+        ),
+        (
+            Some(Fault::EqualCountsRefused),
+            [22, 22, 22, 22, 0],
+            [22, 22, 22, 22, 0],
+        ),
+        (
+            Some(Fault::FullCounterRefused),
+            [22, 22, 22, 0, 22],
+            [22, 22, 22, 0, 22],
+        ),
+        (Some(Fault::LastCounterUntested), right, [0; 5]),
+    ] {
+        assert_eq!(given(0, fault), of_player_0, "{fault:?}");
+        assert_eq!(given(7, fault), of_player_7, "{fault:?}");
+    }
+}
+
+/// The faults of the share, by hand: with the counters of player 0, asked for player 0 or 8, what the right rules give, and
+/// what the fault does.
+#[test]
+fn mistaken_shares_of_reads() {
+    const LIMIT: u32 = 4_000_000_000;
+    let cases = [
+        (
+            Fault::ShareInHundredths,
+            counter(3, 1),
+            0,
+            [0, 333, 1],
+            [0, 33, 1],
+        ),
+        (
+            Fault::ShareRemainderOfHits,
+            counter(3, 2),
+            0,
+            [0, 666, 2],
+            [0, 666, 2],
+        ),
+        (
+            Fault::ShareRemainderOfHits,
+            counter(7, 3),
+            0,
+            [0, 428, 4],
+            [0, 428, 3],
+        ),
+        (
+            Fault::ShareRounded,
+            counter(3, 2),
+            0,
+            [0, 666, 2],
+            [0, 667, 2],
+        ),
+        (
+            Fault::ShareRounded,
+            counter(3, 1),
+            0,
+            [0, 333, 1],
+            [0, 333, 1],
+        ),
+        (
+            Fault::ShareOfStoreReads,
+            counter(4, 1),
+            0,
+            [0, 250, 0],
+            [0, 750, 0],
+        ),
+        (
+            Fault::ShareWraps,
+            counter(LIMIT, 4_294_968),
+            0,
+            [0, 1, 294_968_000],
+            [0, 0, 704],
+        ),
+        (
+            Fault::ShareSaturates,
+            counter(LIMIT, LIMIT),
+            0,
+            [0, 1_000, 0],
+            [0, 1, 294_967_295],
+        ),
+        (
+            Fault::NoReadShareZero,
+            counter(0, 0),
+            0,
+            [39, 0, 0],
+            [0, 0, 0],
+        ),
+        (Fault::NoHitRefused, counter(9, 0), 0, [0, 0, 0], [39, 0, 0]),
+        (
+            Fault::NoReadBeforePlayer,
+            counter(9, 1),
+            8,
+            [28, 0, 0],
+            [39, 0, 0],
+        ),
+        (
+            Fault::PlayerBeforeTables,
+            counter(1, 2),
+            8,
+            [22, 0, 0],
+            [28, 0, 0],
+        ),
+        (
+            Fault::PlayerBeforeTables,
+            counter(1, 2),
+            0,
+            [22, 0, 0],
+            [22, 0, 0],
+        ),
+        (
+            Fault::AskedCounterAlone,
+            counter(1, 2),
+            1,
+            [22, 0, 0],
+            [39, 0, 0],
+        ),
+        (
+            Fault::AskedCounterAlone,
+            counter(1, 2),
+            0,
+            [22, 0, 0],
+            [22, 0, 0],
+        ),
+    ];
+    for (fault, own, asked, right, wrong) in cases {
+        let (store, mut players) = fresh_tables();
+        players[COUNTERS..COUNTERS + 2].copy_from_slice(&[own.answered, own.hits]);
+        let [code, a, b] = right;
+        assert_eq!(share(&store, &players, asked), reply(code, a, b), "{own:?}");
+        let [code, a, b] = wrong;
+        let given = share_with(&store, &players, asked, &fault);
+        assert_eq!(given, reply(code, a, b), "{fault:?}");
     }
 }
 

@@ -2,6 +2,7 @@
 
 mod claim;
 mod codec;
+mod counters;
 mod edges;
 mod faults;
 mod first_read;

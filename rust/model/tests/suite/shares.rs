@@ -236,7 +236,8 @@ fn a_refusal_leaves_all() {
         assert_eq!(state, before);
     }
     assert_eq!(rules::step(&mut state, read(0, 45)), reply(2, 0, 0));
-    assert_eq!(state, before);
+    assert_eq!(state.requests, before.requests);
+    assert_eq!(state.cached, before.cached);
 }
 
 /// Tables with so many requests of players, reads on entry 9, and so many loads, in rising serial; the last

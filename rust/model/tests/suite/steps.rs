@@ -59,7 +59,7 @@ fn shared_guard_requests() {
 }
 
 /// "if the cell is full, its guard equals the player's guard and that is live, the reply comes
-/// from memory and nothing is altered"
+/// from memory and nothing is altered", but for the read counter (document 02 §7).
 #[test]
 fn read_from_memory() {
     let steps = then(&[
@@ -71,10 +71,11 @@ fn read_from_memory() {
         respond(4),
     ]);
     let mut state = state_after(&steps);
-    let before = state.clone();
+    let mut expected = state.clone();
     assert_eq!(rules::step(&mut state, read(0, 45)), reply(2, 3, 7));
     assert_eq!(rules::step(&mut state, read(0, 46)), reply(2, 0, 0));
-    assert_eq!(state, before);
+    expected.counters[0] = counter(3, 2);
+    assert_eq!(state, expected);
     assert_eq!(rules::step(&mut state, read(0, 47)), reply(1, 5, 0));
     assert_eq!(rules::step(&mut state, read(1, 45)), reply(1, 6, 0));
 }

@@ -1,6 +1,7 @@
 //! Short names for steps and replies, and what several tests share.
 
 use calls::{Range, Reply, Report, Step};
+use model::counters::ReadCounter;
 use model::faults::NoFault;
 use model::state::{Operation, State};
 use model::trial::play;
@@ -69,6 +70,11 @@ pub fn report(why: u32, records: u32, place: u32) -> Report {
         records,
         place,
     }
+}
+
+/// A read counter: answered reads, and those of them from memory.
+pub fn counter(answered: u32, hits: u32) -> ReadCounter {
+    ReadCounter { answered, hits }
 }
 
 pub fn range(low: u8, high: u16) -> Range {

@@ -14,7 +14,7 @@ use crate::support::*;
 #[test]
 fn fresh() {
     let (store, players) = fresh_tables();
-    assert_eq!((store.len(), players.len()), (1_280, 9_473));
+    assert_eq!((store.len(), players.len()), (1_280, 9_489));
     for (at, &word) in store.iter().enumerate() {
         assert_eq!(word, u32::from(at == 0), "store {at}");
     }
@@ -23,7 +23,7 @@ fn fresh() {
         assert_eq!(word, if owner { 8 } else { 0 }, "players {at}");
     }
     assert_eq!(check(&store, &players), reply(0, 0, 0));
-    let mut used = (vec![7; 1_280], vec![7; 9_473]);
+    let mut used = (vec![7; 1_280], vec![7; 9_489]);
     let given = model::tables::fresh(&mut used.0, &mut used.1);
     assert_eq!(given, reply(0, 0, 0));
     assert_eq!(used, (store, players));
@@ -32,7 +32,13 @@ fn fresh() {
 /// "Making tables fresh tests 21 only." A refusal alters nothing.
 #[test]
 fn fresh_of_the_wrong_length() {
-    for (store, players) in [(1_279, 9_473), (1_281, 9_473), (1_280, 9_472), (0, 0)] {
+    for (store, players) in [
+        (1_279, 9_489),
+        (1_281, 9_489),
+        (1_280, 9_488),
+        (1_280, 9_473),
+        (0, 0),
+    ] {
         let mut tables = (vec![7; store], vec![7; players]);
         let given = model::tables::fresh(&mut tables.0, &mut tables.1);
         assert_eq!(given, refused(21));
@@ -242,8 +248,8 @@ fn round_trip() {
     }
 }
 
-/// The state that leaves no word unused: no boundary, interval after the first, version, value, epoch or
-/// cell is 0, and every place has a request.
+/// The state that leaves no word unused: no boundary, interval after the first, version, value, epoch,
+/// cell or count is 0, and every place has a request.
 #[test]
 fn full() {
     let state = full_state();
@@ -251,7 +257,9 @@ fn full() {
     let used = |words: &[u32]| words.iter().all(|&word| word != 0);
     assert!(used(&store[..INTERVAL_STARTS]) && used(&store[INTERVAL_STARTS + 1..]));
     assert!(used(&players[EPOCHS..REQUESTS]));
-    assert!(players[REQUESTS..].chunks(12).all(|place| place[0] != 0));
+    let mut places = players[REQUESTS..COUNTERS].chunks(12);
+    assert!(places.all(|place| place[0] != 0));
+    assert!(used(&players[COUNTERS..]));
     assert_eq!(check(&store, &players), reply(0, 0, 0));
     assert_eq!(decode(&store, &players), Ok(state));
 }
