@@ -186,6 +186,9 @@ pub trait Library {
         let budget = budget.min(PREVIEW_RECORDS);
         self.run(&mut store, &mut players, session, budget, replies)
     }
+    /// The share of a player's reads from memory in thousandths: the quotient of 1,000 times those by its answered
+    /// reads, and the remainder.
+    fn share(&self, store: &[u32], players: &[u32], player: u8) -> Reply;
     /// The record that stands at the start of the bytes.
     fn decode(&self, part: &[u8]) -> Decoded;
     /// Writes a step's record: 26 and 27 as in [`Library::step`], then 36.

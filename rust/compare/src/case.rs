@@ -8,6 +8,7 @@ use model::state::State;
 use model::tables::{self, decode_store, tables_of};
 
 use crate::cells::{Call, Counts, FIND_INTERVAL};
+use crate::counters::{self, OnShare, Way};
 use crate::oracle::RIGHT;
 use crate::shares::Watch;
 use crate::situations::{OnLoad, PreviewEnd, Situation};
@@ -34,6 +35,8 @@ pub enum Act {
     PutMark(usize),
     Marked(Vec<u8>),
     Waiting(Vec<Request>, u8),
+    /// The share of a player's reads from memory.
+    Share(u8),
     Store(StoreCall),
 }
 
@@ -369,6 +372,13 @@ impl Case {
                 counts.note(Call::Waiting, expected.code);
                 replies_differ(library.waiting(list, *player), expected)
             }
+            Act::Share(player) => {
+                let expected = model.share(&right.0, &right.1, *player);
+                counts.note(Call::Share, expected.code);
+                let found = OnShare::of(&right.0, &right.1, *player);
+                counts.note_situations(found.into_iter().map(Situation::Share));
+                replies_differ(library.share(&store, &players, *player), expected)
+            }
             Act::Store(call) => {
                 let (name, expected) = on_store(&model, &mut right.0, *call);
                 counts.note(name, expected[0]);
@@ -383,8 +393,8 @@ impl Case {
     }
 }
 
-/// The model's step, and the situations that it meets: but for those of the shares, of a step that takes
-/// place. (A read from memory sends nothing.)
+/// The model's step, and the situations that it meets: but for those of the shares and the read counters, of a step
+/// that takes place. (A read from memory sends nothing.)
 fn right_step(state: &mut State, step: Step, watch: &mut Watch) -> (Reply, Vec<Situation>) {
     let mut found: Vec<Situation> = match step {
         Step::FindInterval { entry } => {
@@ -395,11 +405,14 @@ fn right_step(state: &mut State, step: Step, watch: &mut Watch) -> (Reply, Vec<S
             .map(Situation::Load)
             .collect(),
     };
+    let counted = counters::Watch::new(Way::Step, state, step);
     let (reply, shares) = watch.step(state, step);
     if reply.is_refusal() || reply.code == code::FROM_MEMORY {
         found.clear();
     }
     found.extend(shares.into_iter().map(Situation::Shares));
+    let counted = counted.map_or(Vec::new(), |watch| watch.met(reply));
+    found.extend(counted.into_iter().map(Situation::Counters));
     (reply, found)
 }
 

@@ -33,6 +33,7 @@ pub enum Call {
     Waiting,
     Fresh,
     Check,
+    Share,
     StoreFresh,
     StoreCheck,
     StoreCheckAt,
@@ -85,6 +86,8 @@ const OTHERS: &[(Call, &[u32])] = &[
     // "Making tables fresh tests 21 only."
     (Call::Fresh, &[0, 21]),
     (Call::Check, &[0, 21, 22]),
+    // Document 02 §7: "39 when the player has no answered read, after 28."
+    (Call::Share, &[0, 21, 22, 28, 39]),
     (Call::StoreFresh, &[0, 21]),
     (Call::StoreCheck, &[0, 21, 22]),
     (Call::StoreCheckAt, &[0, 21, 22]),

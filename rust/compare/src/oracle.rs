@@ -2,7 +2,7 @@
 
 use calls::{Decoded, Fields, Interval, Library, Range, Reply, Report, Request, Step};
 use model::faults::{NoFault, Switches};
-use model::{codec, lent, preview, run, store_calls, tables};
+use model::{codec, counters, lent, preview, run, store_calls, tables};
 
 /// The model; with a fault in place of [`NoFault`] it is wrong in that point.
 #[derive(Clone, Copy, Debug)]
@@ -27,7 +27,6 @@ impl<S: Switches> Library for Model<S> {
         }
     }
 
-    /// By the right rules. (What a fault does to a step is seen in [`Library::step`].)
     fn run(
         &self,
         store: &mut [u32],
@@ -36,7 +35,7 @@ impl<S: Switches> Library for Model<S> {
         budget: u32,
         replies: &mut [u32],
     ) -> Report {
-        run::run(store, players, session, budget, replies)
+        run::run_with(store, players, session, budget, replies, &self.0)
     }
 
     fn preview(&self, store: &[u32], players: &[u32], step: Fields) -> Reply {
@@ -46,7 +45,7 @@ impl<S: Switches> Library for Model<S> {
         }
     }
 
-    /// By the right rules, as the run.
+    /// By the right rules. (What a fault does to the replies of a run is seen in [`Library::run`].)
     fn preview_run(
         &self,
         store: &[u32],
@@ -56,6 +55,10 @@ impl<S: Switches> Library for Model<S> {
         replies: &mut [u32],
     ) -> Report {
         preview::run(store, players, session, budget, replies)
+    }
+
+    fn share(&self, store: &[u32], players: &[u32], player: u8) -> Reply {
+        counters::share_with(store, players, player, &self.0)
     }
 
     fn decode(&self, part: &[u8]) -> Decoded {

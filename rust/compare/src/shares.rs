@@ -121,7 +121,7 @@ impl Watch {
         let reply = rules::step(state, step);
         let found = match sender(step) {
             Some(sender) if reply.code == code::ISSUED => self.let_in(&before, sender),
-            // A refused step, and a read from memory, leave the state as it was.
+            // A refused step, and a read from memory, leave the requests as they were.
             Some(sender) if is_turned_away(&state.requests, sender, &NoFault) => {
                 self.turned_away[usize::from(sender)] |= reply == Refusal::NoPlaceLeft.into();
                 without_place(state, sender, reply)

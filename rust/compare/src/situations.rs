@@ -1,5 +1,6 @@
 //! Situations that must occur, beside the replies: what kinds of guards, guard intervals, loads, shares of
-//! places, first reads from memory and broken tables a call meets, and where the preview of a run ends.
+//! places, first reads from memory, read counters and broken tables a call meets, and where the preview of a run
+//! ends.
 
 use std::cmp::Ordering;
 
@@ -7,7 +8,7 @@ use calls::{Report, Step};
 use model::broken::{Crowd, SERIAL_RULES};
 use model::codec;
 use model::faults::NoFault;
-use model::numbers::{BARRED, COMMON_PLACES, OPEN};
+use model::numbers::{BARRED, COMMON_PLACES, OPEN, PLAYERS};
 use model::preview::MOST_RECORDS;
 use model::run::{AT_END, SPENT};
 use model::state::{Operation, Request, State};
@@ -15,6 +16,7 @@ use model::store::{Store, WriteOutcome};
 use model::table_rules::TableRule;
 
 use crate::cells::{Call, FIND_INTERVAL, LOAD};
+use crate::counters::{OnCounters, OnShare};
 use crate::first_reads::OnFirstRead;
 use crate::shares::OnShares;
 
@@ -313,6 +315,12 @@ pub enum Situation {
     Crowded(Crowd, usize),
     /// An interleaving that ends in a read from memory.
     FirstRead(OnFirstRead),
+    /// A step that answers a read, or one beside it.
+    Counters(OnCounters),
+    /// A share that finds this.
+    Share(OnShare),
+    /// A table in which the counter of this player breaks this rule alone.
+    BrokenCounter(TableRule, usize),
     /// The preview of a run that ends so.
     Preview(PreviewEnd),
     /// A table that breaks this rule alone.
@@ -331,6 +339,14 @@ const OUTCOMES: [(Call, u32); 4] = [
 
 /// The common places in use of tables that keep the shares, and of tables that break them.
 pub const CROWDED: [usize; 2] = [COMMON_PLACES, COMMON_PLACES + 1];
+
+/// The rules of a read counter, each of the first player's and of the last one's.
+pub const BROKEN_COUNTERS: [(TableRule, usize); 4] = [
+    (TableRule::CounterHits, 0),
+    (TableRule::CounterHits, PLAYERS - 1),
+    (TableRule::CounterLimit, 0),
+    (TableRule::CounterLimit, PLAYERS - 1),
+];
 
 /// The calls that find a guard interval.
 const FINDERS: [Call; 2] = [Call::Step(FIND_INTERVAL), Call::StoreFindInterval];
@@ -352,6 +368,9 @@ impl Situation {
             all.extend(Crowd::ALL.map(|crowd| Situation::Crowded(crowd, common)));
         }
         all.extend(OnFirstRead::all().into_iter().map(Situation::FirstRead));
+        all.extend(OnCounters::all().into_iter().map(Situation::Counters));
+        all.extend(OnShare::ALL.map(Situation::Share));
+        all.extend(BROKEN_COUNTERS.map(|(rule, at)| Situation::BrokenCounter(rule, at)));
         all.extend(PreviewEnd::ALL.map(Situation::Preview));
         all.extend(TableRule::ALL.map(Situation::Broken));
         all.extend(SERIAL_RULES.map(Situation::BarredAs));

@@ -1,25 +1,27 @@
 //! The cases, in groups.
 
 use calls::{Fields, Library, Range, Request, Step, KINDS, MAPS};
-use model::broken::{self, bar, break_rule, damage, Crowd, SERIAL_RULES};
+use model::broken::{self, bar, break_counter, break_rule, damage, Crowd, SERIAL_RULES};
 use model::codec::{self, MARK, MAX_SESSION, RECORD_LENGTHS};
 use model::faults::NoFault;
 use model::generate::{any_step, step_for, Profile};
 use model::interleavings::Interleavings;
-use model::numbers::{BARRED, MAX_REQUESTS, MAX_SERIAL, OPEN, PLAYERS};
+use model::numbers::{BARRED, MAX_COUNT, MAX_REQUESTS, MAX_SERIAL, OPEN, PLAYERS};
 use model::preview::MOST_RECORDS;
 use model::prng::Prng;
+use model::reply::code;
 use model::rules;
 use model::state::State;
-use model::states::{any_state, full_state};
+use model::states::{any_state, full_state, remembering_state};
 use model::table_rules::{TableError, TableRule};
-use model::tables::{self, tables_of, PLAYERS_WORDS, STORE_WORDS};
+use model::tables::{self, tables_of, COUNTERS, PLAYERS_WORDS, STORE_WORDS};
 
 use crate::case::{Act, Case, StoreCall};
 use crate::cells::{Counts, FIND_INTERVAL, LOAD};
+use crate::counters::{OnCounters, Watch, Way};
 use crate::first_reads::OnFirstRead;
 use crate::shrink::{print, shrink};
-use crate::situations::{Situation, CROWDED};
+use crate::situations::{Situation, BROKEN_COUNTERS, CROWDED};
 
 /// How much is tried, and from which seed.
 #[derive(Clone, Copy, Debug)]
@@ -86,6 +88,20 @@ impl<L: Library> Group<'_, L> {
         steps
     }
 
+    /// Notes what a run of these steps counts, and its preview.
+    fn note_counted(&mut self, mut state: State, steps: &[Step]) {
+        for (at, &step) in steps.iter().enumerate() {
+            let watch = Watch::new(Way::Run, &state, step);
+            let reply = rules::step(&mut state, step);
+            let found = watch.map_or(Vec::new(), |watch| watch.met(reply));
+            let is_answer = matches!(reply.code, code::FROM_MEMORY | code::FROM_STORE);
+            let is_previewed = is_answer && at < MOST_RECORDS as usize;
+            let previewed = is_previewed.then_some(OnCounters::Previewed(Way::Run));
+            let found = found.into_iter().chain(previewed);
+            self.counts.note_situations(found.map(Situation::Counters));
+        }
+    }
+
     /// A step of any kind with any numbers.
     fn any_step(&mut self) -> Step {
         any_step(&mut self.rng, self.kinds)
@@ -101,11 +117,18 @@ impl<L: Library> Group<'_, L> {
 
     /// A call on both tables.
     fn any_act(&mut self) -> Act {
-        match self.rng.below(4) {
+        match self.rng.below(5) {
             0 => Act::Check,
             1 => run_of(codec::session(&[self.any_step(), self.any_step()]), 9, 9),
+            2 => self.any_share(),
             _ => Act::Steps(vec![self.any_step()]),
         }
+    }
+
+    /// The share of any player, be it none.
+    fn any_share(&mut self) -> Act {
+        let any = self.rng.below(256) as u8;
+        Act::Share([self.rng.below(8) as u8, 8, any][[0, 0, 0, 1, 2][self.rng.index(5)]])
     }
 
     /// Whether the library knows guard intervals: by step 14, and by the store's call.
@@ -201,14 +224,26 @@ pub fn run_all<L: Library>(library: &L, plan: Plan, counts: &mut Counts) -> Vec<
         .collect()
 }
 
-/// Runs the groups up to the first that fails, which it gives.
-pub fn run_to_failure<L: Library>(library: &L, plan: Plan, counts: &mut Counts) -> Option<Outcome> {
-    let all = groups().into_iter().enumerate();
-    all.map(|(at, group)| run_one(library, plan, counts, at, group))
+/// The groups in their order.
+pub const IN_ORDER: usize = 0;
+/// The groups of the read counters first, which end the order.
+pub const OF_COUNTERS: usize = 23;
+
+/// Runs the groups up to the first that fails, which it gives: from this one on, and then those before it.
+pub fn run_to_failure<L: Library>(
+    library: &L,
+    plan: Plan,
+    counts: &mut Counts,
+    first: usize,
+) -> Option<Outcome> {
+    let mut all: Vec<_> = groups().into_iter().enumerate().collect();
+    all.rotate_left(first);
+    all.into_iter()
+        .map(|(at, group)| run_one(library, plan, counts, at, group))
         .find(|outcome| outcome.failure.is_some())
 }
 
-fn groups<L: Library>() -> [(&'static str, Run<L>); 23] {
+fn groups<L: Library>() -> [(&'static str, Run<L>); OF_COUNTERS + 2] {
     [
         ("random sessions, step by step", sessions),
         ("near the last serial", late),
@@ -233,6 +268,8 @@ fn groups<L: Library>() -> [(&'static str, Run<L>); 23] {
         ("places taken by a few", crowds),
         ("tables with the common places taken", crowded_tables),
         ("first reads from memory", first_reads),
+        ("reads counted near the limit", counted_reads),
+        ("shares of reads from memory", shares_of_reads),
     ]
 }
 
@@ -396,6 +433,74 @@ fn first_reads(group: &mut Group<impl Library>) {
             .note_situations(found.map(Situation::FirstRead));
         let steps = played.history.iter().map(|(_, event)| event.step);
         if group.fails(case_from(&start, Act::Steps(steps.collect()))) {
+            return;
+        }
+    }
+}
+
+/// Lists in which many reads are answered, from memory and from the store, from tables with counts at the limit and near
+/// it: every second one step by step, the others as a run.
+fn counted_reads(group: &mut Group<impl Library>) {
+    for round in 0..group.plan.share(1_600) {
+        let state = remembering_state(&mut group.rng);
+        let profile = Profile::reading(&mut group.rng, group.kinds);
+        let steps = group.drawn_by(profile, state.clone(), 60);
+        let act = match round % 2 {
+            0 => Act::Steps(steps),
+            _ => {
+                group.note_counted(state.clone(), &steps);
+                run_of(codec::session(&steps), 60, 3 * 60)
+            }
+        };
+        if group.fails(case_from(&state, act)) {
+            return;
+        }
+    }
+}
+
+/// Shares of the eight players, and of numbers that are no player's: in any tables, in fresh ones, and in such as break a
+/// rule, have a word changed, or another length.
+fn shares_of_reads(group: &mut Group<impl Library>) {
+    let all: Vec<Act> = (0..10).chain([255]).map(Act::Share).collect();
+    let (store, players) = tables::fresh_tables();
+    if group.any_fails(&store, &players, all.clone()) {
+        return;
+    }
+    for _ in 0..group.plan.share(600) {
+        let (store, mut players) = tables_of(&any_state(&mut group.rng));
+        if group.any_fails(&store, &players, all.clone()) {
+            return;
+        }
+        let (rule, player) = BROKEN_COUNTERS[group.rng.index(BROKEN_COUNTERS.len())];
+        let broken = break_counter(&mut group.rng, rule, player);
+        if tables::decode(&broken.0, &broken.1) == Err(TableError::Rule(rule)) {
+            let met = Situation::BrokenCounter(rule, player);
+            group.counts.note_situations([met]);
+        }
+        let acts = [Act::Check, group.any_act(), Act::Share(player as u8)];
+        let others = [group.any_share(), group.any_share()];
+        if group.any_fails(&broken.0, &broken.1, acts.into_iter().chain(others)) {
+            return;
+        }
+        let rule = TableRule::ALL[group.rng.index(TableRule::ALL.len())];
+        let broken = break_rule(&mut group.rng, rule);
+        let acts = [group.any_share(), group.any_share()];
+        if group.any_fails(&broken.0, &broken.1, acts) {
+            return;
+        }
+        // One count made a number at an edge of the rules.
+        let edges = [0, 1, 2, MAX_COUNT - 1, MAX_COUNT, MAX_COUNT + 1, u32::MAX];
+        let at = COUNTERS + group.rng.index(PLAYERS_WORDS - COUNTERS);
+        players[at] = edges[group.rng.index(edges.len())];
+        let asked = ((at - COUNTERS) / 2) as u8;
+        let acts = [Act::Check, Act::Share(asked), group.any_share(), Act::Fresh];
+        if group.any_fails(&store, &players, acts) {
+            return;
+        }
+        let words = [0, 1, 9_473, 9_488, 9_490, 20_000][group.rng.index(6)];
+        players.resize(words, 7);
+        let acts = [group.any_share(), group.any_share()];
+        if group.any_fails(&store, &players, acts) {
             return;
         }
     }
@@ -609,13 +714,14 @@ fn changed_words(group: &mut Group<impl Library>) {
             let word = match group.rng.below(5) {
                 0 => group.rng.below(300),
                 1 => (state.last_serial + group.rng.below(3)).saturating_sub(1),
-                2 => MAX_SERIAL + group.rng.below(2),
+                2 => [MAX_SERIAL, MAX_COUNT][group.rng.index(2)] + group.rng.below(2),
                 3 => BARRED - group.rng.below(2),
                 _ => group.rng.word(),
             };
-            match group.rng.below(3) {
+            match group.rng.below(4) {
                 0 => store[group.rng.index(STORE_WORDS)] = word,
                 1 => players[group.rng.index(PLAYERS_WORDS)] = word,
+                2 => players[COUNTERS + group.rng.index(PLAYERS_WORDS - COUNTERS)] = word,
                 _ => players[tables::REQUESTS + group.rng.index(768)] = word,
             }
         }
@@ -637,7 +743,7 @@ fn changed_words(group: &mut Group<impl Library>) {
 /// Tables of other lengths: 21 from every call, and nothing changed.
 fn lengths(group: &mut Group<impl Library>) {
     let stores = [0, 1, 256, 1_279, STORE_WORDS, 1_281, 2_560, PLAYERS_WORDS];
-    let players = [0, 1, 1_280, 9_472, PLAYERS_WORDS, 9_474, 20_000];
+    let players = [0, 1, 1_280, COUNTERS, 9_488, PLAYERS_WORDS, 9_490, 20_000];
     for store_words in stores {
         for players_words in players {
             for kind in 1..=group.kinds {
@@ -656,6 +762,7 @@ fn lengths(group: &mut Group<impl Library>) {
                     Act::Steps(vec![step]),
                     run_of(codec::session(&[step]), 9, 9),
                     run_of(vec![0], 9, 9),
+                    group.any_share(),
                     Act::Store(group.any_store_call()),
                     Act::Store(StoreCall::Fresh),
                 ];
@@ -852,8 +959,22 @@ fn store_alone(group: &mut Group<impl Library>) {
     }
 }
 
-/// Each word of both tables in turn made each of ten numbers at edges of the rules, in a smaller plan the
-/// first of them, on tables that are empty, that have one request and twelve guard intervals, and that are
+/// Numbers at edges of the rule of read counters, and beside the counts that tables have.
+const COUNT_EDGES: [u32; 10] = [
+    MAX_COUNT + 1,
+    1,
+    0,
+    u32::MAX,
+    MAX_COUNT,
+    MAX_COUNT - 1,
+    MAX_COUNT - 7,
+    MAX_COUNT - 8,
+    2,
+    MAX_SERIAL,
+];
+
+/// Each word of both tables in turn made each of ten numbers at edges of the rules, a count others than another word, in a
+/// smaller plan the first of them, on tables that are empty, that have one request and twelve guard intervals, and that are
 /// full: the test of the tables passes over no word, also where a row of cells ends, or where several
 /// words are tested at once and a few are left.
 fn each_word(group: &mut Group<impl Library>) {
@@ -869,7 +990,11 @@ fn each_word(group: &mut Group<impl Library>) {
         let last = state.last_serial;
         let (store, players) = tables_of(&state);
         for at in 0..STORE_WORDS + PLAYERS_WORDS {
-            let numbers = [last + 1, 1, 0, BARRED, 9, 2, 8, last, 256, 65_536];
+            let is_count = at >= STORE_WORDS + COUNTERS;
+            let numbers = match is_count {
+                true => COUNT_EDGES,
+                false => [last + 1, 1, 0, BARRED, 9, 2, 8, last, 256, 65_536],
+            };
             for word in numbers.into_iter().take(group.plan.share(10) as usize) {
                 let (mut store, mut players) = (store.clone(), players.clone());
                 match at.checked_sub(STORE_WORDS) {

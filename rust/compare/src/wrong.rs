@@ -1,9 +1,9 @@
 //! Libraries that are wrong in one point each. They show what the comparison sees: every one of them
 //! must be caught, and the case it is caught on shrunk.
 //!
-//! Four sorts: the port behind a call that is wrong in a point ([`Point`]), or behind a preview that is
-//! ([`PreviewPoint`]), the port with a test of the tables that misses one rule, and the model with one of
-//! its faults.
+//! Five sorts: the port behind a call that is wrong in a point ([`Point`]), behind a preview that is
+//! ([`PreviewPoint`]), or behind read counters or a share that are ([`CounterPoint`]), the port with a test of the
+//! tables that misses one rule, and the model with one of its faults.
 
 use calls::{Decoded, Fields, Library, Reply, Report, Request, KINDS};
 use model::faults::Fault;
@@ -15,7 +15,8 @@ use port::Port;
 
 use crate::cells::Counts;
 use crate::oracle::Model;
-use crate::suites::{run_to_failure, Outcome, Plan};
+use crate::suites::{run_to_failure, Outcome, Plan, IN_ORDER, OF_COUNTERS};
+use crate::wrong_counters::CounterPoint;
 use crate::wrong_previews::PreviewPoint;
 
 /// What is wrong.
@@ -204,6 +205,8 @@ pub enum Wrong {
     In(Point),
     /// Wrong in a point of its previews.
     InPreview(PreviewPoint),
+    /// Wrong in a point of its read counters or its share. Its previews are right.
+    InCounters(CounterPoint),
     /// The test of the tables lets a table by that breaks this rule.
     Misses(TableRule),
 }
@@ -236,8 +239,8 @@ fn without_cells(players: &[u32], numbers: impl IntoIterator<Item = usize>) -> V
 }
 
 /// The requests of a players' table, 12 words each.
-fn requests(players: &[u32]) -> impl Iterator<Item = &[u32]> {
-    let places = players[tables::REQUESTS..].chunks(12);
+pub(crate) fn requests(players: &[u32]) -> impl Iterator<Item = &[u32]> {
+    let places = players[tables::REQUESTS..tables::COUNTERS].chunks(12);
     places.take_while(|place| place[0] != 0)
 }
 
@@ -249,7 +252,7 @@ fn used(players: &[u32]) -> usize {
 /// The players' table with these requests, at most 64, in place of its own.
 fn with_requests(players: &[u32], requests: &[&[u32]]) -> Vec<u32> {
     let mut players = players.to_vec();
-    let places = &mut players[tables::REQUESTS..];
+    let places = &mut players[tables::REQUESTS..tables::COUNTERS];
     places.fill(0);
     for (place, request) in places.chunks_mut(12).zip(requests) {
         place.copy_from_slice(request);
@@ -315,6 +318,9 @@ impl Library for Wrong {
     }
 
     fn fresh(&self, store: &mut [u32], players: &mut [u32]) -> Reply {
+        if let Wrong::InCounters(point) = self {
+            return point.fresh(store, players);
+        }
         let kept = players.last().copied();
         let reply = Port.fresh(store, players);
         if let (true, Some(kept), Some(last)) = (
@@ -328,6 +334,9 @@ impl Library for Wrong {
     }
 
     fn check(&self, store: &[u32], players: &[u32]) -> Reply {
+        if let Wrong::InCounters(point) = self {
+            return point.check(store, players);
+        }
         let reply = Port.check(store, players);
         if self.lets_by(store, players) {
             return Reply::refused(0);
@@ -356,6 +365,9 @@ impl Library for Wrong {
     }
 
     fn step(&self, store: &mut [u32], players: &mut [u32], mut step: Fields) -> Reply {
+        if let Wrong::InCounters(point) = self {
+            return point.step(store, players, step);
+        }
         if self.is(Point::StrangeFieldsTaken) && step.kind == 13 {
             step.serial = 0;
         }
@@ -423,7 +435,7 @@ impl Library for Wrong {
             Point::CacheReadNeedsPlace
                 if reply.code == 2 && own >= OWN_PLACES && common == COMMON_PLACES =>
             {
-                Reply::refused(38)
+                undone(store, players, Reply::refused(38))
             }
             Point::SerialsBeforePlaces if reply.code == 38 && last == 4_000_000 => {
                 Reply::refused(34)
@@ -434,10 +446,8 @@ impl Library for Wrong {
                 reply
             }
             Point::ReadOverlapsWrite if reply.code == 1 && step.kind == 5 => {
-                let places = before.1[tables::REQUESTS..].chunks(12);
-                let crosses = places.clone().any(|place| {
-                    place[0] != 0
-                        && place[1] == u32::from(step.player)
+                let crosses = requests(&before.1).any(|place| {
+                    place[1] == u32::from(step.player)
                         && place[2] == 4
                         && place[3] == u32::from(step.entry)
                         && place[9] == 0
@@ -467,8 +477,10 @@ impl Library for Wrong {
         mut budget: u32,
         replies: &mut [u32],
     ) -> Report {
-        let Wrong::In(point) = *self else {
-            return Port.run(store, players, session, budget, replies);
+        let point = match *self {
+            Wrong::In(point) => point,
+            Wrong::InCounters(point) => return point.run(store, players, session, budget, replies),
+            _ => return Port.run(store, players, session, budget, replies),
         };
         match point {
             Point::RunOverBudget => budget = budget.saturating_add(1),
@@ -540,6 +552,13 @@ impl Library for Wrong {
         match self {
             Wrong::InPreview(point) => point.run(store, players, session, budget, replies),
             _ => Port.preview_run(store, players, session, budget, replies),
+        }
+    }
+
+    fn share(&self, store: &[u32], players: &[u32], player: u8) -> Reply {
+        match self {
+            Wrong::InCounters(point) => point.share(store, players, player),
+            _ => Port.share(store, players, player),
         }
     }
 
@@ -688,13 +707,19 @@ pub fn try_all(plan: Plan, mut tell: impl FnMut(Tried)) {
     for point in Point::ALL {
         tell(Tried {
             name: format!("{point:?}"),
-            caught: run_to_failure(&Wrong::In(point), plan, &mut counts),
+            caught: run_to_failure(&Wrong::In(point), plan, &mut counts, IN_ORDER),
         });
     }
     for point in PreviewPoint::ALL {
         tell(Tried {
             name: format!("preview: {point:?}"),
-            caught: run_to_failure(&Wrong::InPreview(point), plan, &mut counts),
+            caught: run_to_failure(&Wrong::InPreview(point), plan, &mut counts, IN_ORDER),
+        });
+    }
+    for point in CounterPoint::ALL {
+        tell(Tried {
+            name: format!("counters: {point:?}"),
+            caught: run_to_failure(&Wrong::InCounters(point), plan, &mut counts, OF_COUNTERS),
         });
     }
     // The group that breaks each rule alone sees these at once.
@@ -705,13 +730,17 @@ pub fn try_all(plan: Plan, mut tell: impl FnMut(Tried)) {
     for rule in TableRule::ALL {
         tell(Tried {
             name: format!("the test misses {rule:?}"),
-            caught: run_to_failure(&Wrong::Misses(rule), short, &mut counts),
+            caught: run_to_failure(&Wrong::Misses(rule), short, &mut counts, IN_ORDER),
         });
     }
     for fault in Fault::ALL {
+        let first = match fault.is_of_counters() {
+            true => OF_COUNTERS,
+            false => IN_ORDER,
+        };
         tell(Tried {
             name: format!("the model with {fault:?}"),
-            caught: run_to_failure(&Model(fault), plan, &mut counts),
+            caught: run_to_failure(&Model(fault), plan, &mut counts, first),
         });
     }
 }

@@ -42,7 +42,7 @@ fn every_cell_is_filled() {
     run_all(&RIGHT, plan, &mut counts);
     let (_, wrong, cells) = counts.table(KINDS);
     assert!(wrong.is_empty(), "{wrong:?}");
-    assert_eq!(cells, 490);
+    assert_eq!(cells, 545);
     assert!(counts.seen(Call::Step(FIND_INTERVAL), 9) > 1_000);
     assert!(counts.seen(Call::Step(LOAD), 1) > 1_000);
     assert!(counts.seen(Call::Step(LOAD), 38) > 100);
@@ -66,7 +66,7 @@ fn wrong_libraries_are_caught() {
         assert!(!of_preview || text.contains("preview, "), "{text}");
         tried += 1;
     });
-    assert_eq!(tried, 198);
+    assert_eq!(tried, 264);
 }
 
 /// The wrong libraries that count some requests not are wrong in that alone: where the right one has no place

@@ -6,6 +6,7 @@ use calls::{bit, has, Fields, Range, Step, KINDS};
 use crate::numbers::{Entries, ENTRIES, LOADER, MAX_SERIAL, NOBODY, PLAYERS};
 use crate::prng::Prng;
 use crate::state::{Operation, Request, State};
+use crate::states::REMEMBERED;
 
 /// What the steps of one list are drawn from. Each list has its own profile, so that some lists
 /// have long delays, some many restarts, some no splits at all.
@@ -199,21 +200,25 @@ impl Profile {
         }
     }
 
-    /// A new profile by which mostly guards are kept and reads are answered, from memory and from the store.
+    /// A new profile by which players keep their guards of the entries that many have in their memory
+    /// ([`REMEMBERED`]), and read these and others.
     pub fn reading(rng: &mut Prng, kinds: u8) -> Profile {
         let mut weights = WEIGHTS;
         for (weight, kind) in weights.iter_mut().zip(1..) {
             *weight = match kind {
+                1..=3 => *weight / 8,
                 4 => 4 * *weight,
                 5 => *weight / 8,
                 _ => *weight,
             };
         }
         Profile {
+            players: PLAYERS as u8,
+            window: REMEMBERED,
             weights,
+            whole: 0,
             by_owner: [60, 90][rng.index(2)],
             steady: 98,
-            prompt: 60,
             timeouts: 0,
             reads: 30,
             ..Profile::draw(rng, kinds)

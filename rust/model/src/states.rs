@@ -4,7 +4,9 @@ use calls::{Range, Step};
 
 use crate::counters::ReadCounter;
 use crate::faults::NoFault;
-use crate::numbers::{BARRED, ENTRIES, LOADER, MAX_COUNT, MAX_REQUESTS, MAX_SERIAL, OPEN, PLAYERS};
+use crate::numbers::{
+    Entries, BARRED, ENTRIES, LOADER, MAX_COUNT, MAX_REQUESTS, MAX_SERIAL, OPEN, PLAYERS,
+};
 use crate::prng::Prng;
 use crate::rules;
 use crate::shares;
@@ -57,6 +59,21 @@ pub fn any_state(rng: &mut Prng) -> State {
     state
 }
 
+/// The entries that are in a player's memory in many states of [`remembering_state`].
+pub const REMEMBERED: Range = Range::new(0, 8);
+
+/// Any such state in which most of the first entries are in their owner's memory.
+pub fn remembering_state(rng: &mut Prng) -> State {
+    let mut state = any_state(rng);
+    for entry in REMEMBERED.entries() {
+        if rng.chance(80) && state.last_serial > 0 {
+            make_live(rng, &mut state, entry);
+            fill_cell(rng, &mut state, entry);
+        }
+    }
+    state
+}
+
 /// Any such state with this last serial, and with zero counts.
 pub fn any_state_at(rng: &mut Prng, last_serial: u32) -> State {
     let pool = serial_pool(rng, last_serial);
@@ -96,13 +113,15 @@ pub fn any_state_at(rng: &mut Prng, last_serial: u32) -> State {
 }
 
 /// Any read counters that keep the rules: zeros, few reads, any number, and counts at the limit or a few reads below it.
-pub fn any_counters(rng: &mut Prng) -> [ReadCounter; PLAYERS] {
+fn any_counters(rng: &mut Prng) -> [ReadCounter; PLAYERS] {
     [ReadCounter::ZERO; PLAYERS].map(|_| {
         let few = rng.below(4);
         let numbers = [0, few, MAX_COUNT - few, MAX_COUNT, rng.below(MAX_COUNT)];
         let answered = numbers[rng.index(numbers.len())];
-        let below = answered - few.min(answered);
-        let hits = [0, few.min(answered), rng.below(answered), below, answered][rng.index(5)];
+        let few = few.min(answered);
+        let shares = [0, few, answered / 2, answered - few, answered];
+        let any = rng.below(answered);
+        let hits = shares.get(rng.index(6)).copied().unwrap_or(any);
         ReadCounter { answered, hits }
     })
 }

@@ -15,7 +15,7 @@ use crate::rules;
 use crate::run::{run_with, REPLY_WORDS};
 use crate::shrink::{shrink, Outcome};
 use crate::state::State;
-use crate::states::any_state;
+use crate::states::{any_state, remembering_state};
 use crate::tables::{counters, tables_of};
 
 /// Plays the steps from fresh tables: "The first gets fresh tables, each later one those the last
@@ -160,9 +160,10 @@ impl ZeroRun {
     /// A random one: from fresh tables or any others, with steps of all sorts, such as crowd the places for requests
     /// and many reads among them.
     pub fn draw(rng: &mut Prng, faults: &impl Switches) -> ZeroRun {
-        let mut start = match rng.chance(50) {
-            true => State::fresh(),
-            false => any_state(rng),
+        let mut start = match rng.below(3) {
+            0 => State::fresh(),
+            1 => any_state(rng),
+            _ => remembering_state(rng),
         };
         start.counters = [ReadCounter::ZERO; PLAYERS];
         let profile = match rng.below(3) {

@@ -2,7 +2,7 @@
 
 use calls::{Decoded, Fields, Library, Range, Reply, Report, Request, Step};
 
-use crate::{answer, known, players, records, run, steps, store, KINDS};
+use crate::{answer, counters, known, players, records, run, steps, store, KINDS};
 
 /// The port as a library.
 #[derive(Clone, Copy, Debug, Default)]
@@ -43,6 +43,10 @@ impl Library for Port {
         replies: &mut [u32],
     ) -> Report {
         run::run(store, players, session, budget, replies)
+    }
+
+    fn share(&self, store: &[u32], players: &[u32], player: u8) -> Reply {
+        counters::share(store, players, player)
     }
 
     fn decode(&self, part: &[u8]) -> Decoded {

@@ -2,7 +2,7 @@
 
 use calls::{Range, Reply, Request};
 
-use crate::{cells, ends, issued, region, shares, SERIALS};
+use crate::{cells, counters, ends, issued, region, shares, SERIALS};
 
 /// Adds a request at place `k`, the first that is not used; its serial is the last one issued.
 fn add(players: &mut [u32], k: usize, r: Request) {
@@ -46,13 +46,14 @@ pub fn request_guard(players: &mut [u32], player: u8, range: Range) -> Reply {
     issued(last + 1)
 }
 
-/// Step 4: from the cache if it holds a live value, else a request.
+/// Step 4: from the cache if it holds a live value, which is counted, else a request.
 pub fn read(players: &mut [u32], player: u8, entry: u8) -> Reply {
     if player > 7 {
         return Reply::refused(28);
     }
     let i = usize::from(player) * 256 + usize::from(entry);
     if cells::is_hit(players, player, entry) {
+        counters::count(&mut players[9473..9489], player, 1);
         return Reply::new(2, players[4609 + i], players[6657 + i]);
     }
     let scan = region::scan_writing(&players[8705..9473], player, entry);

@@ -10,6 +10,7 @@
 #![warn(missing_docs)]
 
 mod cells;
+mod counters;
 mod exports;
 mod fields;
 mod guards;
@@ -36,7 +37,7 @@ use calls::{Range, Reply, UNKNOWN_KIND};
 /// Words of the store's table.
 const STORE: usize = 1_280;
 /// Words of the players' table.
-const PLAYERS: usize = 9_473;
+const PLAYERS: usize = 9_489;
 /// The last serial.
 const SERIALS: u32 = 4_000_000;
 /// The last kind.

@@ -3,7 +3,7 @@
 use calls::Reply;
 
 use crate::words::{above, at_most};
-use crate::{region, store, PLAYERS, SERIALS, STORE};
+use crate::{counters, region, store, PLAYERS, SERIALS, STORE};
 
 /// Makes both tables fresh.
 pub fn fresh(store: &mut [u32], players: &mut [u32]) -> Reply {
@@ -51,6 +51,7 @@ fn players_hold(players: &[u32]) -> bool {
         && at_most(&players[513..2561], last)
         && values_hold(players)
         && region::holds(&players[8705..9473], last)
+        && counters::hold(&players[9473..])
 }
 
 /// Whether both tables keep the rules.

@@ -3,7 +3,7 @@
 use calls::{Reply, Request};
 
 use crate::places::is_load;
-use crate::{cells, region};
+use crate::{cells, counters, region};
 
 /// Whether the player owns each entry from `low` up to `high` with an epoch below the serial; false
 /// where that is no range.
@@ -44,9 +44,10 @@ fn respond_guard_request(players: &mut [u32], r: Request) -> Reply {
     said(6)
 }
 
-/// A read: its outcome, cached if it may be.
+/// A read: its outcome, cached if it may be, and counted for the player that sent it.
 fn respond_read(players: &mut [u32], r: Request) -> Reply {
     remember(players, r, r.first, r.second);
+    counters::count(&mut players[9473..9489], r.player, 0);
     Reply::new(3, r.first, r.second)
 }
 

@@ -136,6 +136,10 @@ impl Library for Proved {
         })
     }
 
+    fn share(&self, s: &[u32], p: &[u32], player: u8) -> Reply {
+        reply(unsafe { raw::famdrize_share(s.as_ptr(), s.len(), p.as_ptr(), p.len(), player) })
+    }
+
     fn decode(&self, part: &[u8]) -> Decoded {
         let found = unsafe { raw::famdrize_decode(part.as_ptr(), part.len()) };
         Decoded {
