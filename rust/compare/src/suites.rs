@@ -938,8 +938,24 @@ fn serial(rng: &mut Prng) -> u32 {
     }
 }
 
-/// The store used alone: any call on any table. Writes often carry the entry's guard, 0 or barred.
+/// The store used alone. First a write with each pair of a carried guard and an entry's guard, of which a small plan
+/// would draw some seldom; then any call on any table. Writes often carry the entry's guard, 0 or barred.
 fn store_alone(group: &mut Group<impl Library>) {
+    let guards = [OPEN, 2, BARRED];
+    let mut state = State::fresh();
+    state.store.guards[..guards.len()].copy_from_slice(&guards);
+    let (store, _) = tables_of(&state);
+    let writes = guards.into_iter().flat_map(|guard| {
+        (0..guards.len() as u8).map(move |entry| StoreCall::Write {
+            entry,
+            value: 7,
+            serial: 9,
+            guard,
+        })
+    });
+    if group.any_fails(&store, &[], writes.map(Act::Store)) {
+        return;
+    }
     for _ in 0..group.plan.share(20_000) {
         let state = any_state(&mut group.rng);
         let (store, _) = tables_of(&state);

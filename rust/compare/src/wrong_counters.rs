@@ -239,8 +239,8 @@ impl CounterPoint {
         let report = Port.run(store, &mut left, session, budget, replies);
         let is_refused = report.place == 0;
         let keeps_counters = match self {
-            CounterPoint::RunLeavesCounters | CounterPoint::RunMissesCounters => !is_refused,
-            CounterPoint::RunBeginsAtZero => is_refused,
+            CounterPoint::RunLeavesCounters => !is_refused,
+            CounterPoint::RunMissesCounters => is_set_aside && !is_refused,
             _ => false,
         };
         if self == CounterPoint::RefusedRunZeroes && matches!(report.why, 23 | 37) {

@@ -1,16 +1,19 @@
 //! The port agrees with the model, every cell is filled, and the comparison sees every wrong library.
 
-use calls::{Fields, Library, KINDS};
+use calls::{Fields, Library, Step, KINDS};
 use compare::cells::{Call, Counts, FIND_INTERVAL, LOAD};
 use compare::oracle::{Model, RIGHT};
 use compare::suites::{run_all, Plan};
 use compare::wrong::{try_all, Point, Wrong};
+use compare::wrong_counters::CounterPoint;
+use model::codec;
 use model::faults::Fault;
-use model::generate::step_for;
+use model::generate::{step_for, Profile};
 use model::numbers::MAX_REQUESTS;
 use model::prng::Prng;
-use model::states::any_state;
-use model::tables::tables_of;
+use model::rules;
+use model::states::{any_state, remembering_state};
+use model::tables::{tables_of, COUNTERS};
 use port::Port;
 
 /// A tenth of what the program `compare` does.
@@ -47,6 +50,8 @@ fn every_cell_is_filled() {
     assert!(counts.seen(Call::Step(LOAD), 1) > 1_000);
     assert!(counts.seen(Call::Step(LOAD), 38) > 100);
     assert!(counts.seen(Call::PreviewRun, 9) > 1_000);
+    assert!(counts.seen(Call::Share, 0) > 300);
+    assert!(counts.seen(Call::Share, 39) > 100);
 }
 
 /// Every library that is wrong in one point is caught, and the case is printed.
@@ -101,4 +106,77 @@ fn uncounted_requests_get_their_marks() {
         }
     }
     assert!(let_in.iter().all(|&count| count > 50), "{let_in:?}");
+}
+
+/// The wrong libraries of the read counters do, with a step, a run and a share, what the model does with the same fault, and
+/// so are wrong in that alone; each is wrong now and then.
+#[test]
+fn wrong_counters_are_wrong_in_that_alone() {
+    let pairs = [
+        (CounterPoint::CountsForStep, Fault::StoreReadOfPlayer0),
+        (CounterPoint::CountsForOwner, Fault::StoreReadOfOwner),
+        (CounterPoint::StoreReadUncounted, Fault::StoreReadUncounted),
+        (
+            CounterPoint::MemoryReadUncounted,
+            Fault::MemoryReadUncounted,
+        ),
+        (CounterPoint::MemoryReadAsMiss, Fault::MemoryReadAsMiss),
+        (CounterPoint::HitsGoOn, Fault::HitsGoOn),
+        (CounterPoint::AnsweredGoesOn, Fault::AnsweredGoesOn),
+        (CounterPoint::RefusedReadCounted, Fault::RefusedReadCounted),
+        (CounterPoint::RestartZeroes, Fault::RestartZeroesCounters),
+        (CounterPoint::RunLeavesCounters, Fault::RunLeavesCounters),
+        (CounterPoint::RunBeginsAtZero, Fault::RunBeginsAtZero),
+        (
+            CounterPoint::ShareRemainderOfHits,
+            Fault::ShareRemainderOfHits,
+        ),
+        (CounterPoint::ShareInHundredths, Fault::ShareInHundredths),
+        (CounterPoint::ShareWraps, Fault::ShareWraps),
+        (CounterPoint::ShareAskedAlone, Fault::AskedCounterAlone),
+        (CounterPoint::ShareNoReadZero, Fault::NoReadShareZero),
+        (CounterPoint::ShareNoReadFirst, Fault::NoReadBeforePlayer),
+        (CounterPoint::SharePlayerFirst, Fault::PlayerBeforeTables),
+    ];
+    let mut rng = Prng::new(8);
+    let mut wrong = [0; 18];
+    for _ in 0..1_500 {
+        let state = remembering_state(&mut rng);
+        let mut profile = Profile::reading(&mut rng, Port.kinds());
+        let mut left = state.clone();
+        let steps: Vec<Step> = (0..12)
+            .map(|_| {
+                let step = profile.next_step(&mut rng, &left);
+                rules::step(&mut left, step);
+                step
+            })
+            .collect();
+        let session = codec::session(&steps);
+        let player = rng.below(9) as u8;
+        let start = tables_of(&state);
+        // Now and then a counter that breaks a rule.
+        let mut asked = start.clone();
+        if rng.chance(30) {
+            asked.1[COUNTERS + rng.index(16)] = u32::MAX;
+        }
+        let of = |library: &dyn Library, is_run: bool| {
+            let ((mut store, mut players), mut list) = (start.clone(), vec![0; 36]);
+            let mut replies = Vec::new();
+            if is_run {
+                library.run(&mut store, &mut players, &session, 12, &mut list);
+            } else {
+                let step = Fields::from(steps[0]);
+                replies.push(library.step(&mut store, &mut players, step));
+            }
+            replies.push(library.share(&asked.0, &asked.1, player));
+            (replies, list, store, players)
+        };
+        for ((point, fault), wrong) in pairs.into_iter().zip(&mut wrong) {
+            let is_run = matches!(fault, Fault::RunLeavesCounters | Fault::RunBeginsAtZero);
+            let given = of(&Wrong::InCounters(point), is_run);
+            assert!(given == of(&Model(fault), is_run), "{point:?}, {steps:?}");
+            *wrong += u32::from(given != of(&Port, is_run));
+        }
+    }
+    assert!(wrong.iter().all(|&count| count > 10), "{wrong:?}");
 }
