@@ -212,8 +212,9 @@ fn stacks() {
         }
         println!();
     };
-    let mut checks = works::calls();
+    let (mut checks, mut shares) = (works::calls(), works::calls());
     checks.retain(|work| matches!(work.act, works::Act::Check));
+    shares.retain(|work| matches!(work.act, works::Act::Share(_)));
     let mut runs = works::kinds();
     let by_calls = |act| runs.iter().map(|run| run.by_calls(act)).collect();
     let steps: Vec<Work> = by_calls(works::Act::Steps);
@@ -221,6 +222,7 @@ fn stacks() {
     runs.extend(works::sessions());
     let run_previews: Vec<Work> = runs.iter().filter_map(Work::preview).collect();
     row("check", &checks);
+    row("share", &shares);
     row("step, all kinds above", &steps);
     row("run, all sessions above", &runs);
     row("preview, all kinds above", &previews);

@@ -37,6 +37,8 @@ pub enum Act {
     Previews(Vec<Fields>),
     /// The test of the tables.
     Check,
+    /// The share of this player's reads from memory.
+    Share(u8),
 }
 
 /// The lent slices of one call, made once.
@@ -83,6 +85,7 @@ impl Work {
             Act::Steps(steps) => codes(steps, |step| library.step(store, players, step)),
             Act::Previews(steps) => codes(steps, |step| library.preview(store, players, step)),
             Act::Check => library.check(store, players).code,
+            Act::Share(player) => library.share(store, players, *player).a,
         }
     }
 
@@ -104,7 +107,7 @@ impl Work {
                 steps
             }
             Act::Steps(steps) | Act::Previews(steps) => steps.clone(),
-            Act::Check => Vec::new(),
+            Act::Check | Act::Share(_) => Vec::new(),
         }
     }
 
@@ -436,6 +439,8 @@ pub fn calls() -> Vec<Work> {
         respond(3),
     ];
     let (_, cached) = play(&memory, &NoFault);
+    // Two of three reads came from memory.
+    let (_, counted) = play(&joined(&[&memory, &[read, read]]), &NoFault);
     let split = Step::Split { entry: 9 };
     let merge = Step::Merge { entry: 9 };
     // A preview leaves the boundary where it is, so that it has another one to remove.
@@ -498,6 +503,12 @@ pub fn calls() -> Vec<Work> {
         ten("preview: 7 answer, refused", &cached, &refused, previews),
         run,
         run_preview,
+        Work::new(
+            "share of reads from memory",
+            &counted,
+            Act::Share(player),
+            1,
+        ),
         Work::new("check, fresh tables", &State::fresh(), Act::Check, 1),
         Work::new("check, 64 requests", &full, Act::Check, 1),
         Work::new("check, full tables", &full_state(), Act::Check, 1),
@@ -507,6 +518,7 @@ pub fn calls() -> Vec<Work> {
 #[cfg(test)]
 mod tests {
     use super::*;
+    use compare::oracle::RIGHT;
     use model::faults::Fault;
     use model::tables::decode;
 
@@ -545,6 +557,17 @@ mod tests {
             let (before, same) = play(&steps, &Fault::NoShares);
             assert!(history.iter().all(|event| event.reply.code != 38));
             assert!(history == before && state == same, "{}", work.name);
+        }
+    }
+
+    /// The share that is measured is one of reads of which some came from memory.
+    #[test]
+    fn the_share_is_no_refusal() {
+        let mut works = calls().into_iter();
+        let work = works.find(|work| matches!(work.act, Act::Share(_)));
+        let work = work.expect("a share");
+        for library in [&Port as &dyn Library, &RIGHT] {
+            assert_eq!(work.run(library, &mut work.lent(), false), 666);
         }
     }
 
