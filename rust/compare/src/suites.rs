@@ -127,8 +127,12 @@ impl<L: Library> Group<'_, L> {
 
     /// The share of any player, be it none.
     fn any_share(&mut self) -> Act {
-        let any = self.rng.below(256) as u8;
-        Act::Share([self.rng.below(8) as u8, 8, any][[0, 0, 0, 1, 2][self.rng.index(5)]])
+        let rng = &mut self.rng;
+        Act::Share(match rng.below(5) {
+            0 => PLAYERS as u8,
+            1 => rng.below(256) as u8,
+            _ => rng.below(PLAYERS as u32) as u8,
+        })
     }
 
     /// Whether the library knows guard intervals: by step 14, and by the store's call.
@@ -458,8 +462,9 @@ fn counted_reads(group: &mut Group<impl Library>) {
     }
 }
 
-/// Shares of the eight players, and of numbers that are no player's: in any tables, in fresh ones, and in such as break a
-/// rule, have a word changed, or another length.
+/// Shares of the eight players, and of numbers that are no player's: in fresh tables and any others; then, with other
+/// calls, where a counter or any rule is broken, one count is a number at an edge of the rules, or the players' table has
+/// another length.
 fn shares_of_reads(group: &mut Group<impl Library>) {
     let all: Vec<Act> = (0..10).chain([255]).map(Act::Share).collect();
     let (store, players) = tables::fresh_tables();
@@ -467,41 +472,36 @@ fn shares_of_reads(group: &mut Group<impl Library>) {
         return;
     }
     for _ in 0..group.plan.share(600) {
-        let (store, mut players) = tables_of(&any_state(&mut group.rng));
+        let (store, players) = tables_of(&any_state(&mut group.rng));
         if group.any_fails(&store, &players, all.clone()) {
             return;
         }
         let (rule, player) = BROKEN_COUNTERS[group.rng.index(BROKEN_COUNTERS.len())];
-        let broken = break_counter(&mut group.rng, rule, player);
-        if tables::decode(&broken.0, &broken.1) == Err(TableError::Rule(rule)) {
+        let counter_broken = break_counter(&mut group.rng, rule, player);
+        if tables::decode(&counter_broken.0, &counter_broken.1) == Err(TableError::Rule(rule)) {
             let met = Situation::BrokenCounter(rule, player);
             group.counts.note_situations([met]);
         }
-        let acts = [Act::Check, group.any_act(), Act::Share(player as u8)];
-        let others = [group.any_share(), group.any_share()];
-        if group.any_fails(&broken.0, &broken.1, acts.into_iter().chain(others)) {
-            return;
-        }
-        let rule = TableRule::ALL[group.rng.index(TableRule::ALL.len())];
-        let broken = break_rule(&mut group.rng, rule);
-        let acts = [group.any_share(), group.any_share()];
-        if group.any_fails(&broken.0, &broken.1, acts) {
-            return;
-        }
-        // One count made a number at an edge of the rules.
-        let edges = [0, 1, 2, MAX_COUNT - 1, MAX_COUNT, MAX_COUNT + 1, u32::MAX];
-        let at = COUNTERS + group.rng.index(PLAYERS_WORDS - COUNTERS);
-        players[at] = edges[group.rng.index(edges.len())];
-        let asked = ((at - COUNTERS) / 2) as u8;
-        let acts = [Act::Check, Act::Share(asked), group.any_share(), Act::Fresh];
-        if group.any_fails(&store, &players, acts) {
-            return;
-        }
-        let words = [0, 1, 9_473, 9_488, 9_490, 20_000][group.rng.index(6)];
-        players.resize(words, 7);
-        let acts = [group.any_share(), group.any_share()];
-        if group.any_fails(&store, &players, acts) {
-            return;
+        let rng = &mut group.rng;
+        let rule = TableRule::ALL[rng.index(TableRule::ALL.len())];
+        let any_broken = break_rule(rng, rule);
+        let mut changed = (store.clone(), players.clone());
+        let count = COUNTERS + 2 * player + rng.index(2);
+        changed.1[count] = COUNT_EDGES[rng.index(COUNT_EDGES.len())];
+        let mut resized = (store, players);
+        let words = [0, 1, COUNTERS, 9_488, 9_490, 20_000][rng.index(6)];
+        resized.1.resize(words, 7);
+        for (store, players) in [counter_broken, any_broken, changed, resized] {
+            let acts = [
+                Act::Share(player as u8),
+                group.any_share(),
+                Act::Check,
+                Act::Fresh,
+                group.any_act(),
+            ];
+            if group.any_fails(&store, &players, acts) {
+                return;
+            }
         }
     }
 }

@@ -252,7 +252,7 @@ pub enum Fault {
     HitsUntested,
     /// "a count above that limit, is 22": such tables are taken.
     CountLimitUntested,
-    /// Tables are 22 in which all answered reads of a player came from memory.
+    /// Tables are 22 in which a player has answered reads, and all came from memory.
     EqualCountsRefused,
     /// Tables that have a count of 4,000,000,000 are 22.
     FullCounterRefused,
@@ -445,64 +445,66 @@ impl Fault {
     /// - `StoreReadUncounted` and those after it, [`Fault::is_of_counters`]: no reply of a step depends on a read
     ///   counter, so that nothing in the line does.
     pub fn breaks_demand_3(self) -> bool {
-        !self.is_of_counters()
-            && !matches!(
-                self,
-                Fault::RestartPlayerKeepsWrites
-                    | Fault::RequestKeepsGuards
-                    | Fault::GrantIgnoresEpochs
-                    | Fault::RejectedKeepsGuards
-                    | Fault::NeverCaches
-                    | Fault::IntervalCutToTablet
-                    | Fault::IntervalBeginsLate
-                    | Fault::IntervalEndsEarly
-                    | Fault::IntervalEndsBehind
-                    | Fault::OpenAlone
-                    | Fault::IntervalWithoutGuard
-                    | Fault::IntervalTakesSerial
-                    | Fault::BarredMatches
-                    | Fault::BarredAlone
-                    | Fault::LoadNeedsOwnership
-                    | Fault::LoadNeedsOpenGuard
-                    | Fault::LoadSerialFirst
-                    | Fault::LoadOverlapped
-                    | Fault::WriteMarksLoads
-                    | Fault::LoadMarksRequests
-                    | Fault::LoadOverlapsRequests
-                    | Fault::LoadEmptiesCells
-                    | Fault::RejectedLoadClears
-                    | Fault::AbandonedLoadClears
-                    | Fault::RestartPlayerAbandonsLoads
-                    | Fault::LoaderRestarts
-                    | Fault::AbandonedUncounted
-                    | Fault::DeliveredUncounted
-                    | Fault::OnlyUnderwayCounted
-                    | Fault::LoaderHasOwnPlaces
-                    | Fault::LoadsUncounted
-                    | Fault::OthersUncounted
-                    | Fault::SeventeenthLetIn
-                    | Fault::SixteenthTurnedAway
-                    | Fault::SixthTurnedAway
-                    | Fault::SevenOwnPlaces
-                    | Fault::AllTurnedAway
-                    | Fault::OwnPlacesAlone
-                    | Fault::NoShares
-                    | Fault::SerialBeforePlace
-                    | Fault::MemoryReadNeedsPlace
-                    | Fault::OldNumber
-                    | Fault::SharesUntested
-                    | Fault::FullSharesRefused
-                    | Fault::SharesOfPendingAlone
-                    | Fault::RestartTabletClearsHeld
-                    | Fault::AssignSetsEveryEpoch
-                    | Fault::AnyWriteOverlapsReads
-                    | Fault::AnyGuardRequestShares
-                    | Fault::GrantAsksStore
-                    | Fault::MemoryReadAsksStore
-                    | Fault::SetGuardClearsOthers
-                    | Fault::GrantMissesLastEntry
-                    | Fault::LastSerialUnused
-            )
+        if self.is_of_counters() {
+            return false;
+        }
+        !matches!(
+            self,
+            Fault::RestartPlayerKeepsWrites
+                | Fault::RequestKeepsGuards
+                | Fault::GrantIgnoresEpochs
+                | Fault::RejectedKeepsGuards
+                | Fault::NeverCaches
+                | Fault::IntervalCutToTablet
+                | Fault::IntervalBeginsLate
+                | Fault::IntervalEndsEarly
+                | Fault::IntervalEndsBehind
+                | Fault::OpenAlone
+                | Fault::IntervalWithoutGuard
+                | Fault::IntervalTakesSerial
+                | Fault::BarredMatches
+                | Fault::BarredAlone
+                | Fault::LoadNeedsOwnership
+                | Fault::LoadNeedsOpenGuard
+                | Fault::LoadSerialFirst
+                | Fault::LoadOverlapped
+                | Fault::WriteMarksLoads
+                | Fault::LoadMarksRequests
+                | Fault::LoadOverlapsRequests
+                | Fault::LoadEmptiesCells
+                | Fault::RejectedLoadClears
+                | Fault::AbandonedLoadClears
+                | Fault::RestartPlayerAbandonsLoads
+                | Fault::LoaderRestarts
+                | Fault::AbandonedUncounted
+                | Fault::DeliveredUncounted
+                | Fault::OnlyUnderwayCounted
+                | Fault::LoaderHasOwnPlaces
+                | Fault::LoadsUncounted
+                | Fault::OthersUncounted
+                | Fault::SeventeenthLetIn
+                | Fault::SixteenthTurnedAway
+                | Fault::SixthTurnedAway
+                | Fault::SevenOwnPlaces
+                | Fault::AllTurnedAway
+                | Fault::OwnPlacesAlone
+                | Fault::NoShares
+                | Fault::SerialBeforePlace
+                | Fault::MemoryReadNeedsPlace
+                | Fault::OldNumber
+                | Fault::SharesUntested
+                | Fault::FullSharesRefused
+                | Fault::SharesOfPendingAlone
+                | Fault::RestartTabletClearsHeld
+                | Fault::AssignSetsEveryEpoch
+                | Fault::AnyWriteOverlapsReads
+                | Fault::AnyGuardRequestShares
+                | Fault::GrantAsksStore
+                | Fault::MemoryReadAsksStore
+                | Fault::SetGuardClearsOthers
+                | Fault::GrantMissesLastEntry
+                | Fault::LastSerialUnused
+        )
     }
 
     /// Whether it is of the read counters or the share (document 02 §7).
