@@ -94,15 +94,9 @@ pub(crate) fn share(
 #[cfg(test)]
 mod tests {
     use super::*;
+    use crate::preview::tests::fresh;
     use crate::{Range, Reply, SessionMut, Step, TablesMut, Why};
     use std::string::ToString;
-
-    /// Fresh tables.
-    fn fresh() -> ([u32; STORE_WORDS], [u32; PLAYERS_WORDS]) {
-        let (mut store, mut players) = ([0; STORE_WORDS], [0; PLAYERS_WORDS]);
-        TablesMut::fresh(&mut store, &mut players);
-        (store, players)
-    }
 
     fn player(number: u8) -> Player {
         Player::new(number).unwrap()

@@ -56,14 +56,14 @@ pub(crate) fn of_run(
 }
 
 #[cfg(test)]
-mod tests {
+pub(crate) mod tests {
     use super::*;
     use crate::step::tests::fields;
     use crate::{Player, Refusal, SessionMut, Step, TablesMut, Why};
     use std::thread;
 
     /// Fresh tables.
-    fn fresh() -> ([u32; STORE_WORDS], [u32; PLAYERS_WORDS]) {
+    pub(crate) fn fresh() -> ([u32; STORE_WORDS], [u32; PLAYERS_WORDS]) {
         let (mut store, mut players) = ([0; STORE_WORDS], [0; PLAYERS_WORDS]);
         TablesMut::fresh(&mut store, &mut players);
         (store, players)
