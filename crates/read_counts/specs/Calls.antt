@@ -9,7 +9,7 @@ use Rattle.counters.specs.declared.Counts.{Counts}
 use Rattle.counters.specs.Model.{most, none}
 use Rattle.counters.specs.Region.{countsOf}
 use Rattle.players.specs.Table.{counter-words}
-use Rattle.players.specs.Played.{Tables, tables, Keeps, held-in}
+use Rattle.players.specs.Played.{Tables, Keeps, held-in}
 use Rattle.session.specs.Records.{Bytes}
 use Rattle.session.specs.Runs.{steps, whole-places}
 use Rattle.steps.specs.RunCalls.{ran, replies-from}

@@ -2,10 +2,8 @@
 -- Assumes nothing.
 use mathlib.Core.Path.{_≡_, refl}
 use mathlib.Core.List.{List, [], _∷_, map}
-use Prim.Native.Nat.{ℕ}
 use Rattle.store.specs.Model.{unbroken}
 use Rattle.store.specs.declared.Range.{Range}
-use Rattle.counters.specs.declared.Counts.{Counts}
 use Rattle.counters.specs.Model.{most, counts, none, counted, counted-by}
 use Rattle.players.specs.declared.Step.{Step}
 use Rattle.players.specs.declared.Step.the-variants.{Assign, RequestGuard, Read, Write, Deliver, Respond, Abandon, RestartPlayer}
