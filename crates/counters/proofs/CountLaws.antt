@@ -11,8 +11,8 @@ use Rattle.counters.specs.Model.{most, counts, none, one-if, counted, co
 
 -- ---- the rule
 
-pub hits-least : (c : Counts) → T (sound c) → c .hits ≤ c .answered
-hits-least c t = leb→le (c .hits) (c .answered) (and-left (leb (c .hits) (c .answered)) (leb (c .answered) most) t)
+pub hits-at-most : (c : Counts) → T (sound c) → c .hits ≤ c .answered
+hits-at-most c t = leb→le (c .hits) (c .answered) (and-left (leb (c .hits) (c .answered)) (leb (c .answered) most) t)
 
 sound-from : (c : Counts) → c .hits ≤ c .answered → c .answered ≤ most → T (sound c)
 sound-from c h g = and-both (leb (c .hits) (c .answered)) (leb (c .answered) most) (le→leb _ _ h) (le→leb _ _ g)
@@ -20,9 +20,9 @@ sound-from c h g = and-both (leb (c .hits) (c .answered)) (leb (c .answered) mos
 pub sound-none : T (sound none)
 sound-none = tt
 
-pub one-if-least : (b : Bool) → one-if b ≤ 1
-one-if-least true = omega arith
-one-if-least false = omega arith
+pub one-if-at-most : (b : Bool) → one-if b ≤ 1
+one-if-at-most true = omega arith
+one-if-at-most false = omega arith
 
 -- one more read keeps it
 sound-counted : (c : Counts) (hit : Bool) → T (sound c) → T (sound (counted c hit))
@@ -31,7 +31,7 @@ sound-counted c hit t =
     cond-elim (λ r. T (sound r)) (leb (c .answered + 1) most && leb (c .hits + one-if hit) most) (counts (c .answered + 1) (c .hits + one-if hit)) c
     (λ e.
     let a : T (leb (c .answered + 1) most) = and-left (leb (c .answered + 1) most) (leb (c .hits + one-if hit) most) (rw e tt) in
-    sound-from (counts (c .answered + 1) (c .hits + one-if hit)) (omega (arith, hits-least c t, one-if-least hit)) (leb→le _ _ a))
+    sound-from (counts (c .answered + 1) (c .hits + one-if hit)) (omega (arith, hits-at-most c t, one-if-at-most hit)) (leb→le _ _ a))
     (λ _. t)
 
 pub sound-kept : (c : Counts) (code : ℕ) → T (sound c) → T (sound (counted-by c code))

@@ -8,14 +8,14 @@ use Prim.Native.Nat.{ℕ, _<_, _≤_}
 use native.Mathlib.Nat.{zero-add}
 use native.Mathlib.Omega.{arith}
 use lib.Dec.{T, ltb, eqb}
-use lib.ListN.{length, replicate, length-set}
+use lib.ListN.{length, length-set}
 use borrow.Author.Tests.{lt-ltb, le-ltb, ltb-true, ltb-false, eq-eqb}
 use Rattle.store.specs.Model.{put}
 use Rattle.store.specs.Calls.{reply}
 use Rattle.store.proofs.Bools.{decide, is-true, and-right, and-both}
 use Rattle.counters.specs.declared.Counts.{Counts}
 use Rattle.counters.specs.Model.{none, counted-by, sound, share}
-use Rattle.counters.specs.Region.{whole, countsOf, words-from, regionOf, all-sound, valid, with-counts, counted-at, shared}
+use Rattle.counters.specs.Region.{whole, countsOf, regionOf, all-sound, valid, with-counts, counted-at, shared}
 use Rattle.counters.proofs.WordLaws.{length-words, counts-words, words-are, counts-out, counts-set, sound-words, sound-at}
 
 -- ---- both ways
@@ -28,7 +28,7 @@ whole-region : (f : ℕ → Counts) → whole (regionOf f) ≡ true
 whole-region f = eq-eqb _ 16 (length-region f)
 
 -- the counts of a player, read back
-pub counts-at : (f : ℕ → Counts) (p : ℕ) → p < 8 → countsOf (regionOf f) p ≡ f p
+counts-at : (f : ℕ → Counts) (p : ℕ) → p < 8 → countsOf (regionOf f) p ≡ f p
 unfolding regionOf
 counts-at f p h = counts-words f 0 8 p h ∙ ap f (zero-add p)
 
@@ -53,11 +53,6 @@ region-is f t q e = words-are f 0 8 t q (λ p h. ap f (zero-add p) ∙ e p h)
 
 pub region-counts : (t : List ℕ) → length t ≡ 16 → regionOf (countsOf t) ≡ t
 region-counts t q = region-is (countsOf t) t q (λ p h. refl)
-
--- zero counts of all players
-pub fresh-region : regionOf (λ p. none) ≡ replicate 16 0
-unfolding words-from regionOf
-fresh-region = refl
 
 -- ---- the rule
 

@@ -11,7 +11,7 @@ use Rattle.store.specs.Model.{put}
 use Rattle.store.specs.declared.Reply.{Reply}
 use Rattle.counters.specs.declared.Counts.{Counts}
 use Rattle.counters.specs.Model.{most, counts, none, one-if, counted, counted-by}
-use Rattle.counters.proofs.CountLaws.{hits-least}
+use Rattle.counters.proofs.CountLaws.{hits-at-most, one-if-at-most}
 use Rattle.players.specs.declared.Step.{Step}
 use Rattle.players.specs.Rules.{State, step}
 use Rattle.players.specs.Played.{AllFit, state-after}
@@ -49,10 +49,6 @@ module _ (cs : ℕ → Counts) (q p : ℕ) (r : Reply) (h : cs p .answered + 1 �
 
 -- ---- a list of steps
 
-one-most : (b : Bool) → one-if b ≤ 1
-one-most true = omega arith
-one-most false = omega arith
-
 pub steps-grow : (p : ℕ) (s : State) → Ok s → (xs : List Step) → AllFit xs → StepsGrow p s xs
 unfolding state-after
 steps-grow p s k [] f h = record { answered = omega arith; hits = omega arith }
@@ -60,10 +56,10 @@ steps-grow p s k (x ∷ xs) f h =
     let r = step s x .reply in
     let s′ = step s x .state in
     let one = answers-read r && eqb p (reader s x) in
-    let a = added (s .counters) (reader s x) p r (omega arith) (hits-least (s .counters p) (k .counters p)) in
+    let a = added (s .counters) (reader s x) p r (omega arith) (hits-at-most (s .counters p) (k .counters p)) in
     let b : Added one (from-memory r && eqb p (reader s x)) (s .counters p) (s′ .counters p) =
     subst (λ (c : Counts). Added one (from-memory r && eqb p (reader s x)) (s .counters p) c) (sym (ap (λ (cs : ℕ → Counts). cs p) (step-counts s k x))) a in
-    let i = steps-grow p s′ (step-ok s k x (f .0)) xs (f .1) (omega (arith, b .answered, one-most one)) in
+    let i = steps-grow p s′ (step-ok s k x (f .0)) xs (f .1) (omega (arith, b .answered, one-if-at-most one)) in
     record { answered = omega (arith, b .answered, i .answered); hits = omega (arith, b .hits, i .hits) }
 
 -- from zero counts

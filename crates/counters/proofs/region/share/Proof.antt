@@ -6,7 +6,7 @@ use borrow.Author.Needs.{needs}
 use borrow.Author.Tests.{not-true, not-false}
 use Rattle.counters.specs.Model.{share}
 use Rattle.counters.specs.Region.{all-sound}
-use Rattle.counters.proofs.CountLaws.{hits-least}
+use Rattle.counters.proofs.CountLaws.{hits-at-most}
 use Rattle.counters.proofs.WordLaws.{sound-at}
 use Rattle.counters.proofs.CallLaws.{share-length, share-broken, share-nobody, share-player}
 use Rattle.counters.proofs.region.share.Statement.{statement}
@@ -44,7 +44,7 @@ share-requires : tie.Need-share-requires
 share-requires c κs =
     let s = c .before .before .before in
     let v : all-sound _ ≡ true = sym (s .all-sound .ensures) ∙ not-false _ (c .before .before .if2 .left) in
-    rw (c .counts-at .ensures) (hits-least _ (sound-at _ _ (rw v tt)))
+    rw (c .counts-at .ensures) (hits-at-most _ (sound-at _ _ (rw v tt)))
 
 returns-4 : tie.Need-returns-4
 returns-4 c =
