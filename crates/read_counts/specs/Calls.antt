@@ -28,7 +28,8 @@ RunCounted u session budget list p =
     Keeps u → Bytes session → counts-in (u .players) p ≡ none
     → Counted p (held-in u) (steps session budget (whole-places list)) (replies-from (d .list) 0 (d .report .records)) (counts-in (d .players) p)
 
--- after any calls in any order, single steps, exported ones, runs, with previews among them, from whatever counts, as long as the limit is not met
+-- after any calls in any order, single steps, exported ones, runs, with previews among them, from whatever counts, where these and the number of steps are
+-- together not above the limit
 abbrev pub CallsGrow : Tables → List Call → ℕ → Type 0
 CallsGrow u cs p =
     let c = counts-in (u .players) p in

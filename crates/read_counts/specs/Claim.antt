@@ -13,7 +13,7 @@ use Rattle.counters.specs.declared.Counts.{Counts}
 use Rattle.counters.specs.Model.{most, none, one-if}
 use Rattle.players.specs.declared.Step.{Step}
 use Rattle.players.specs.Kinds.{kind, kind-and-fields}
-use Rattle.players.specs.Rules.{State, nobody, step, replies}
+use Rattle.players.specs.Rules.{State, nobody, with-counters, step, replies}
 use Rattle.players.specs.Played.{state-after}
 
 -- ---- ‘to that player’
@@ -56,10 +56,21 @@ pub record Counted (p : ℕ) (s : State) (xs : List Step) (rs : List Reply) (c :
   pub answered : c .answered ≡ replies-to answers-read p s xs rs
   pub hits : c .hits ≡ replies-to from-memory p s xs rs
 
--- of the steps xs by the rules, from whatever counts, as long as the limit is not met: ‘a count above 4,000,000,000’ is reached by no more steps than that
+-- of the steps xs by the rules, from whatever counts, where these and the number of steps are together not ‘above 4,000,000,000’
 abbrev pub StepsGrow : ℕ → State → List Step → Type 0
 StepsGrow p s xs = s .counters p .answered + length xs ≤ most → Grew p s xs (replies s xs) (s .counters p) (state-after s xs .counters p)
 
 -- from zero counts
 abbrev pub StepsCounted : ℕ → State → List Step → Type 0
 StepsCounted p s xs = s .counters p ≡ none → length xs ≤ most → Counted p s xs (replies s xs) (state-after s xs .counters p)
+
+-- ---- nothing else depends on the counters
+
+-- a state but for its counters
+abbrev pub without-counts : State → State
+without-counts s = with-counters s (λ p. none)
+
+-- with other counts cs, the steps xs get the same replies, and leave the same but for the counters
+pub record Unseen (s : State) (cs : ℕ → Counts) (xs : List Step) : Type 0 where
+  pub replied : replies (with-counters s cs) xs ≡ replies s xs
+  pub left : without-counts (state-after (with-counters s cs) xs) ≡ without-counts (state-after s xs)
