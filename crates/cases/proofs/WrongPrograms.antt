@@ -419,7 +419,7 @@ KeepsRun f = (st t session : List ℕ) (budget : ℕ) (list : List ℕ) → Hand
 
 -- which can be kept
 pub run_promise : KeepsRun ran
-run_promise st t session budget list h = refl
+run_promise s t session budget list h = refl
 
 -- two reads of entry 9, and one write to it, in as many bytes
 abbrev pub two_reads : List ℕ

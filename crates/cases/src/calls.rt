@@ -3,6 +3,7 @@ use crate::lengths::{PLAYERS, STORE};
 use crate::line::Line;
 use crate::{line, show, trial};
 use session::{Decoded, Fields, records};
+use std::io;
 
 // A heading, which is printed as it stands.
 const HEADING: u8 = b'-';
@@ -52,54 +53,69 @@ fn step_of(n: [u32; 6]) -> Decoded {
 }
 
 // Takes a step, or previews it; where the tables may not change, says whether each is what it was.
-fn take(n: [u32; 6], call: u8, store: &mut [u32; STORE], players: &mut [u32; PLAYERS]) {
+fn take(
+    out: &mut Vec<u8>,
+    n: [u32; 6],
+    call: u8,
+    store: &mut [u32; STORE],
+    players: &mut [u32; PLAYERS],
+) -> io::Result<()> {
     let found = step_of(n);
     match found {
         Decoded::Record { step, length } => match call {
-            AHEAD => trial::same_step(store, players, step, true),
-            KEEP => trial::same_step(store, players, step, false),
-            _ => trial::step(store, players, step),
+            AHEAD => trial::same_step(out, store, players, step, true),
+            KEEP => trial::same_step(out, store, players, step, false),
+            _ => trial::step(out, store, players, step),
         },
-        Decoded::Refused(why) => show::say(b"no step\n"),
+        Decoded::Refused(why) => show::say(out, b"no step\n"),
     }
 }
 
 // Makes the call that a line names.
-fn call(line: Line, store: &mut [u32; STORE], players: &mut [u32; PLAYERS]) {
+fn call(
+    out: &mut Vec<u8>,
+    line: Line,
+    store: &mut [u32; STORE],
+    players: &mut [u32; PLAYERS],
+) -> io::Result<()> {
     let first = line.first;
     let n = line.numbers;
     match first {
-        FRESH => trial::fresh(store, players),
-        TAKE => take(n, TAKE, store, players),
-        KEEP => take(n, KEEP, store, players),
-        AHEAD => take(n, AHEAD, store, players),
-        CHECK => trial::same_check(store, players),
-        MEMORY => trial::share(store, players, (n[0] % 256) as u8),
-        READS => trial::reads(store, players, n[0], (n[1] % 256) as u8),
-        STORE_WORD => trial::put(store, n[0], n[1]),
-        PLAYERS_WORD => trial::put(players, n[0], n[1]),
-        LEND => trial::same_part(store, n[0], players, n[1]),
-        HEADING => {}
-        REMARK => {}
-        b'\n' => {}
-        _ => show::say(b"no call\n"),
+        FRESH => trial::fresh(out, store, players),
+        TAKE => take(out, n, TAKE, store, players),
+        KEEP => take(out, n, KEEP, store, players),
+        AHEAD => take(out, n, AHEAD, store, players),
+        CHECK => trial::same_check(out, store, players),
+        MEMORY => trial::share(out, store, players, (n[0] % 256) as u8),
+        READS => {
+            trial::reads(store, players, n[0], (n[1] % 256) as u8);
+            Ok(())
+        }
+        STORE_WORD => trial::put(out, store, n[0], n[1]),
+        PLAYERS_WORD => trial::put(out, players, n[0], n[1]),
+        LEND => trial::same_part(out, store, n[0], players, n[1]),
+        HEADING => Ok(()),
+        REMARK => Ok(()),
+        b'\n' => Ok(()),
+        _ => show::say(out, b"no call\n"),
     }
 }
 
 // One more byte of a line; at its end the call is made, and the next line begins.
 pub(crate) fn read_on(
+    out: &mut Vec<u8>,
     before: Line,
     byte: u8,
     store: &mut [u32; STORE],
     players: &mut [u32; PLAYERS],
-) -> Line {
+) -> io::Result<Line> {
     let line = line::read_on(before, byte);
     if line.first == HEADING {
-        show::byte(byte);
+        show::byte(out, byte)?;
     }
     if byte != b'\n' {
-        return line;
+        return Ok(line);
     }
-    call(line, store, players);
-    line::blank()
+    call(out, line, store, players)?;
+    Ok(line::blank())
 }

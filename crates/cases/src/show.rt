@@ -1,106 +1,107 @@
-// Text on standard output, in the documents' words.
+// Text that is printed, in the documents' words. It is gathered in a list of bytes.
 use players::Step;
 use session::kinds::fields_of;
 use session::{Report, kinds, records};
+use std::io::{self, Write};
 use store::Reply;
 
 // The length of the longest record.
 const RECORD: usize = 14;
 
 // Some bytes.
-pub(crate) fn say(text: &[u8]) {
-    io::write_all(1, text);
+pub(crate) fn say(out: &mut Vec<u8>, text: &[u8]) -> io::Result<()> {
+    out.write_all(text)
 }
 
 // One byte.
-pub(crate) fn byte(b: u8) {
+pub(crate) fn byte(out: &mut Vec<u8>, b: u8) -> io::Result<()> {
     let one = [b];
-    say(&one);
+    say(out, &one)
 }
 
 // A number after a space.
-pub(crate) fn number(n: u32) {
-    say(b" ");
-    io::print_decimal(1, n as u64);
+pub(crate) fn number(out: &mut Vec<u8>, n: u32) -> io::Result<()> {
+    write!(out, " {n}")
 }
 
 // The word for a kind; one that no case here takes has its number.
-fn kind(kind: u8) {
+fn kind(out: &mut Vec<u8>, kind: u8) -> io::Result<()> {
     match kind {
-        kinds::ASSIGN => say(b"assign"),
-        kinds::RELEASE => say(b"release"),
-        kinds::REQUEST_GUARD => say(b"ask"),
-        kinds::READ => say(b"read"),
-        kinds::WRITE => say(b"write"),
-        kinds::DELIVER => say(b"arrive"),
-        kinds::RESPOND => say(b"answer"),
-        kinds::ABANDON => say(b"give up"),
-        kinds::LOSE => say(b"lose"),
-        kinds::SPLIT => say(b"split"),
-        kinds::MERGE => say(b"merge"),
-        kinds::RESTART_TABLET => say(b"restart tablet"),
-        kinds::RESTART_PLAYER => say(b"restart player"),
-        kinds::FIND_INTERVAL => say(b"find stretch"),
-        kinds::LOAD => say(b"load"),
-        _ => other(kind),
+        kinds::ASSIGN => say(out, b"assign"),
+        kinds::RELEASE => say(out, b"release"),
+        kinds::REQUEST_GUARD => say(out, b"ask"),
+        kinds::READ => say(out, b"read"),
+        kinds::WRITE => say(out, b"write"),
+        kinds::DELIVER => say(out, b"arrive"),
+        kinds::RESPOND => say(out, b"answer"),
+        kinds::ABANDON => say(out, b"give up"),
+        kinds::LOSE => say(out, b"lose"),
+        kinds::SPLIT => say(out, b"split"),
+        kinds::MERGE => say(out, b"merge"),
+        kinds::RESTART_TABLET => say(out, b"restart tablet"),
+        kinds::RESTART_PLAYER => say(out, b"restart player"),
+        kinds::FIND_INTERVAL => say(out, b"find stretch"),
+        kinds::LOAD => say(out, b"load"),
+        _ => other(out, kind),
     }
 }
 
 // A kind by its number.
-fn other(kind: u8) {
-    say(b"kind");
-    number(kind as u32);
+fn other(out: &mut Vec<u8>, kind: u8) -> io::Result<()> {
+    say(out, b"kind")?;
+    number(out, kind as u32)
 }
 
 // A field, where the lowest bit of the map stands.
-fn field(map: u8, n: u32) {
+fn field(out: &mut Vec<u8>, map: u8, n: u32) -> io::Result<()> {
     if map % 2 == 1 {
-        number(n);
+        number(out, n)?;
     }
+    Ok(())
 }
 
 // A step: its kind, and that kind's fields, those whose bit stands in the map of its record.
-pub(crate) fn step(next: Step) {
+pub(crate) fn step(out: &mut Vec<u8>, next: Step) -> io::Result<()> {
     let mut record = [0u8; RECORD];
     records::encode(next, &mut record);
     let map = record[0];
     let f = fields_of(next);
-    kind(f.kind);
-    field(map / 2, f.player as u32);
-    field(map / 4, f.entry as u32);
-    field(map / 8, f.high as u32);
-    field(map / 16, f.value);
-    field(map / 32, f.serial);
+    kind(out, f.kind)?;
+    field(out, map / 2, f.player as u32)?;
+    field(out, map / 4, f.entry as u32)?;
+    field(out, map / 8, f.high as u32)?;
+    field(out, map / 16, f.value)?;
+    field(out, map / 32, f.serial)
 }
 
 // A reply: its code and two numbers.
-pub(crate) fn reply(r: Reply) {
-    say(b":");
-    number(r.code);
-    number(r.a);
-    number(r.b);
+pub(crate) fn reply(out: &mut Vec<u8>, r: Reply) -> io::Result<()> {
+    say(out, b":")?;
+    number(out, r.code)?;
+    number(out, r.a)?;
+    number(out, r.b)
 }
 
 // A report: why a run stopped, the records taken and the place after them.
-pub(crate) fn report(r: Report) {
-    say(b":");
-    number(r.why);
-    number(r.records);
-    number(r.place);
+pub(crate) fn report(out: &mut Vec<u8>, r: Report) -> io::Result<()> {
+    say(out, b":")?;
+    number(out, r.why)?;
+    number(out, r.records)?;
+    number(out, r.place)
 }
 
 // A word that is put into a table.
-pub(crate) fn put(at: u32, word: u32) {
-    say(b"word");
-    number(at);
-    say(b" becomes");
-    number(word);
-    say(b"\n");
+pub(crate) fn put(out: &mut Vec<u8>, at: u32, word: u32) -> io::Result<()> {
+    say(out, b"word")?;
+    number(out, at)?;
+    say(out, b" becomes")?;
+    number(out, word)?;
+    say(out, b"\n")
 }
 
 // How many words of each table are lent.
-pub(crate) fn lent(first: u32, second: u32) {
-    say(b"words");
-    number(first);
-    number(second);
+pub(crate) fn lent(out: &mut Vec<u8>, first: u32, second: u32) -> io::Result<()> {
+    say(out, b"words")?;
+    number(out, first)?;
+    number(out, second)
 }

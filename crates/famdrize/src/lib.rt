@@ -1,4 +1,6 @@
 // The calls for programs in C or Rust (include/famdrize.h): numbers, lent slices of numbers, and structs of numbers laid out as C does.
+#![tactic(auto)]
+
 pub mod alone;
 pub mod lent;
 pub mod previews;
@@ -16,7 +18,7 @@ use store::Reply;
 
 // A reply: a code and two numbers.
 #[repr(C)]
-#[derive(Drop)]
+#[derive(Clone, Copy)]
 pub struct Answer {
     pub code: u32,
     pub a: u32,
@@ -25,7 +27,7 @@ pub struct Answer {
 
 // A guard, and the first and the last entry of its interval: code 0, or the code of a refusal and zeros.
 #[repr(C)]
-#[derive(Drop)]
+#[derive(Clone, Copy)]
 pub struct GuardInterval {
     pub code: u32,
     pub guard: u32,
@@ -35,7 +37,7 @@ pub struct GuardInterval {
 
 // What stands at a place of a session: code 0, the record's length and the step by its fields, or the code of a refusal and zeros.
 #[repr(C)]
-#[derive(Drop)]
+#[derive(Clone, Copy)]
 pub struct RecordFields {
     pub code: u32,
     pub length: u32,
@@ -49,7 +51,7 @@ pub struct RecordFields {
 
 // What a run reports: why it stopped, the number of records taken, and the byte place just after them.
 #[repr(C)]
-#[derive(Drop)]
+#[derive(Clone, Copy)]
 pub struct Ended {
     pub why: u32,
     pub records: u32,
@@ -57,7 +59,7 @@ pub struct Ended {
 }
 
 // The step of some fields, or the number of a refusal.
-#[derive(Drop)]
+#[derive(Clone, Copy)]
 enum Stated {
     Taken(Step),
     Refused(u32),

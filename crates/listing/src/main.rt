@@ -1,10 +1,13 @@
 // Reads a session on standard input and prints its listing.
+#![tactic(auto)]
+
 ghost use Rattle.std.specs.Prelude.{◌≡◌, ◌++◌, ◌+◌, ◌*◌, ◌≤◌, length, take};
 ghost use Rattle.session.specs.Listing.{header, reply_line, reply_lines, end_line, printed};
 ghost use Rattle.session.specs.Text.{Puts};
 ghost use Rattle.steps.specs.RunCalls.{reply_at, replies_from};
 
 use session::{Report, sizes};
+use std::io::{self, Read, Write};
 use store::Reply;
 
 // The budget of the run, and the places of its list for replies.
@@ -14,6 +17,9 @@ const PLACES: usize = 5460;
 
 // Room for the longest listing.
 const ROOM: usize = 240304;
+
+// One byte more than the longest session: what is longer is refused, whatever follows.
+const MOST_READ: u64 = sizes::LONGEST as u64 + 1;
 
 // Puts the line of the reply that stands at a place of the list, and gives the place after it.
 fn reply_line(replies: &[u32], i: usize, out: &mut [u8], at: usize) -> usize
@@ -68,10 +74,11 @@ fn list(session: &[u8], out: &mut [u8]) -> usize
     lines(report, &replies, out)
 }
 
-fn main() {
-    let mut session = [0u8; sizes::LONGEST + 1];
-    let n = io::read_full(0, &mut session);
-    let mut out = [0u8; ROOM];
-    let m = list(&session[..n], &mut out);
-    io::write_all(1, &out[..m]);
+fn main(rt: HostRuntime) -> io::Result<()> {
+    let alloc = rt.alloc();
+    let mut session = Vec::new(alloc);
+    rt.stdin().take(MOST_READ).read_to_end(&mut session)?;
+    let mut out = vec![in alloc; 0u8; ROOM]?;
+    let n = list(&session, &mut out);
+    rt.stdout().write_all(&out[..n])
 }

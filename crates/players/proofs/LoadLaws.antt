@@ -132,6 +132,7 @@ module _ (s : State) (k : Ok s) (r : Request) (m : In r s.requests) (p : r.playe
     where
       found_in : (rs : List Request) → In r rs → ((q : Request) → In q rs → q.serial ≡ r.serial → q ≡ r) → find (named f r.serial) rs (record { state = s; reply = refusal no_such_request }) go ≡ go r
       found_in (q ∷ rs) here u = rw (eq-eqb r.serial r.serial refl, t)
+      found_in [] x'' u = elim x'' [ ]
       found_in (q ∷ rs) (there i) u =
           cond_elim (λ (x : Result). x ≡ go r) (named f r.serial q) _ _
           (λ y. ap go (u q here (eqb-true q.serial r.serial (both_left (serial_is r.serial q) (fits f q) y))))

@@ -1,5 +1,7 @@
 // The players: ownership, held guards, cached values, requests in flight and read counters, in one lent table of 9,489 words beside the store's.
 // Each call tests the two tables' lengths (21) and their rules (22) first.
+#![tactic(auto)]
+
 mod initial;
 pub mod layout;
 mod rules;
@@ -10,7 +12,7 @@ ghost use Rattle.players.specs.Calls.{left, whole, checked, made_fresh, shared};
 use store::{Range, Reply, codes, done, refuse};
 
 // A step: its kind, with that kind's fields. The number of each kind, and the document's word where it has one of its own, stand beside it.
-#[derive(Drop)]
+#[derive(Clone, Copy)]
 pub enum Step {
     Assign { player: u8, range: Range }, // 1
     Release { range: Range }, // 2

@@ -2,7 +2,7 @@
 -- Assumes nothing.
 use mathlib.Core.Path.{◌≡◌, refl}
 use mathlib.Core.Bool.{cond, ◌||◌}
-use mathlib.Core.List.{List, ◌∷◌}
+use mathlib.Core.List.{[], List, ◌∷◌}
 use Prim.Native.Nat.{ℕ, ◌≤◌}
 use native.Mathlib.Omega.{arith}
 use lib.Dec.{T, eqb}
@@ -25,6 +25,7 @@ use Rattle.read_counts.specs.Claim.{player_of, reader, answers_read}
 -- a serial names one request of a list in which they rise
 find_named : {A : Type 0} (Q : Request → Type 0) (p : ℕ) (rs : List Request) → Each Q p rs → (r : Request) → In r rs → (n : ℕ) → r.serial ≡ n → (none : A) (some : Request → A) → find (serial_is n) rs none some ≡ some r
 find_named Q p (r ∷ rs) t _ here n e none some = rw (eq-eqb r.serial n e)
+find_named {A = A} Q p [] t r x3 n e none some = elim x3 [ ]
 find_named Q p (q ∷ rs) t r (there i) n e none some =
     let a = each_above Q q.serial rs t.2 r i in
     rw (ne_eqb q.serial n (omega arith)) (find_named Q q.serial rs t.2 r i n e none some)

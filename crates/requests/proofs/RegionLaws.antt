@@ -7,7 +7,7 @@ use Prim.Native.Nat.{ℕ, zero, suc, ◌+◌, ◌-◌, ◌*◌, ◌≤◌, ◌<�
 use native.Mathlib.Nat.{add-zero, zero-add, sub-zero, not-suc-le-zero, le_of_suc-le-suc}
 use native.Mathlib.Omega.{arith}
 use lib.Dec.{eqb}
-use lib.ListN.{length, get_or, take, drop, set, replicate, get_or-replicate, length-replicate, length-map, replicate-append-replicate}
+use lib.ListN.{length, take, drop, set, replicate, get_or-replicate, length-replicate, length-map, replicate-append-replicate}
 use lib.Seq.{take-append-add, drop-append-add, drop_at}
 use borrow.Author.Tests.{eq-eqb, ne_eqb, eqb-true, lt-ltb}
 use Rattle.requests.specs.declared.Request.{Request}

@@ -206,5 +206,6 @@ place_left p rs le h k t =
   where
     joined : (rs : List Request) → ((r : Request) → In r rs → r.player ≤ loader) → (r : Request) → In r (rs ++ (new_request 0 p 0 0 0 0 0 false ∷ [])) → r.player ≤ loader
     joined [] h r here = le
+    joined [] h r (there m) = elim m [ ]
     joined (q ∷ rs) h r here = h q here
     joined (q ∷ rs) h r (there m) = joined rs (λ x i. h x (there i)) r m

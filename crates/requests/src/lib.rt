@@ -1,4 +1,6 @@
 // The requests in flight between the players and the store: 64 places of 12 words, as specs/Region.antt lays them out.
+#![tactic(auto)]
+
 mod fields;
 pub mod kinds;
 pub mod layout;
@@ -10,7 +12,7 @@ pub mod shares;
 mod tests;
 
 // A request in flight (document: row). Fields that its kind lacks are 0, and so is the outcome before delivery.
-#[derive(Drop)]
+#[derive(Clone, Copy)]
 pub struct Request {
     pub serial: u32,
     pub player: u8,
@@ -34,7 +36,7 @@ pub struct Request {
 
 // One place of the lent list, laid out as C does: a request, where the serial is not 0. A mark stands where its number is not 0.
 #[repr(C)]
-#[derive(Drop)]
+#[derive(Clone, Copy)]
 pub struct LentRequest {
     pub serial: u32,
     pub player: u8,
@@ -51,7 +53,7 @@ pub struct LentRequest {
 }
 
 // Which requests a step that names one fits.
-#[derive(Drop)]
+#[derive(Clone, Copy)]
 pub enum Fit {
     // step 6 (document: not arrived)
     Undelivered,
@@ -64,7 +66,7 @@ pub enum Fit {
 }
 
 // The request that a search gives, and its place.
-#[derive(Drop)]
+#[derive(Clone, Copy)]
 pub enum Found {
     At { place: usize, request: Request },
     Nowhere,
@@ -72,7 +74,7 @@ pub enum Found {
 
 // What a pass over the requests tells: how many there are, whether one is of those that are looked for, and how many each player, and the loader,
 // has: seven bits of `counts` for each, the lowest for player 0 (`shares::has_no_place`).
-#[derive(Drop)]
+#[derive(Clone, Copy)]
 pub struct Scan {
     pub used: usize,
     pub hit: bool,

@@ -5,7 +5,7 @@ use Rattle.store.specs.Model.{unbroken, tablet_first, tablet_end, interval_first
 use Rattle.store.specs.declared.Reply.{Reply}
 use Rattle.players.specs.declared.Step.{Step}
 use Rattle.players.specs.declared.Step.TheVariants.{FindInterval, Load}
-use Rattle.players.specs.Replies.{reply, done, issued, cache_read, store_read, committed, rejected, granted, interval, refusal}
+use Rattle.players.specs.Replies.{reply, done, issued, committed, rejected, interval, refusal}
 use Rattle.players.specs.Rules.{State, replies, fresh}
 use Rattle.players.specs.Cases.{session as session_steps, session_replies, cases as step_cases, Case as StepCase}
 use Rattle.players.specs.Kinds.{map_of, step_of}

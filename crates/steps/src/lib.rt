@@ -1,4 +1,6 @@
 // The steps, on the store's table and the players'.
+#![tactic(auto)]
+
 mod cells;
 mod counting;
 mod issuing;

@@ -1,0 +1,7 @@
+-- `famdrize::alone::famdrize_store_check` meets its contract.
+-- Assumes nothing.
+use mathlib.Core.Path.{◌∙◌}
+use Rattle.famdrize.proofs.alone.famdrize_store_check.Goals as goal
+
+pub returns : goal.returns
+returns c = c.given.ensures ∙ c.check.ensures
