@@ -1,6 +1,6 @@
 /* Famdrize: a store of 256 versioned entries, eight players with a cache each, and the sessions that record every step.
  *
- * The functions are those of the crate `famdrize`, proved against their contracts. `rt staticlib famdrize` makes the library to link,
+ * The functions are those of the crate `famdrize_c`, proved against their contracts. `tools/library` makes the library to link,
  * target/staticlib/libfamdrize.a (x86-64 Linux). docs/RULES.md says what every step does; docs/FORMATS.md gives every table, record and
  * reply to the word and the byte.
  *

@@ -1,4 +1,4 @@
-//! Links the static library that `rt staticlib famdrize` makes from the proved crates. Without it the crate can be checked and documented,
+//! Links the static library that `tools/library` makes from the proved crates. Without it the crate can be checked and documented,
 //! not built.
 use std::env;
 use std::path::Path;
@@ -29,7 +29,7 @@ fn main() {
     if !archive.exists() {
         println!(
             "cargo:warning={} is missing: the crate can be checked and documented, not built. \
-             Make it with `rt staticlib famdrize` at the root of the repository, or name the folder that holds it in {FOLDER}",
+             Make it with `tools/library` at the root of the repository, or name the folder that holds it in {FOLDER}",
             archive.display()
         );
     }

@@ -1,7 +1,7 @@
 //! Safe calls of the proved library: a store of 256 versioned entries, eight players with a cache each, the messages between them, and
 //! the sessions that record every step.
 //!
-//! The library is written in Rattle and proved against its contracts; `rt staticlib famdrize` makes the archive that this crate links. Its
+//! The library is written in Rattle and proved against its contracts; `tools/library` makes the archive that this crate links. Its
 //! rules are in docs/RULES.md of the repository, its tables and records in docs/FORMATS.md. The types here leave out what the library would
 //! refuse: tables have their lengths and keep their rules, a [`Player`] is 0 to 7, a [`Range`] is not empty.
 //!
