@@ -9,53 +9,42 @@ use crate::{Answer, GuardInterval, given};
 use store::Range;
 
 // Makes the table fresh.
-#[unsafe(no_mangle)]
-pub extern "C" fn famdrize_store_fresh(store: &mut [u32]) -> Answer
+pub fn famdrize_store_fresh(store: &mut [u32]) -> Answer
     ensures { done (reply_of result) store.new ≡ made_fresh store.old }
 {
     given(store::fresh(store))
 }
 
 // Whether the table keeps the rules.
-#[unsafe(no_mangle)]
-pub extern "C" fn famdrize_store_check(store: &[u32]) -> Answer
+pub fn famdrize_store_check(store: &[u32]) -> Answer
     ensures { reply_of result ≡ checked serials store.now }
 {
     given(store::check(store))
 }
 
 // The same, where `last` is the last serial issued.
-#[unsafe(no_mangle)]
-pub extern "C" fn famdrize_store_check_at(store: &[u32], last: u32) -> Answer
+pub fn famdrize_store_check_at(store: &[u32], last: u32) -> Answer
     ensures { reply_of result ≡ checked last store.now }
 {
     given(store::check_at(store, last))
 }
 
 // Sets a guard, numbered by its serial, over entries low up to high.
-#[unsafe(no_mangle)]
-pub extern "C" fn famdrize_store_set_guard(
-    store: &mut [u32],
-    low: u8,
-    high: u16,
-    serial: u32,
-) -> Answer
+pub fn famdrize_store_set_guard(store: &mut [u32], low: u8, high: u16, serial: u32) -> Answer
     ensures { done (reply_of result) store.new ≡ called (set_guard (range low high) serial) store.old }
 {
     given(store::set_guard(store, Range { low, high }, serial))
 }
 
 // The version and value of an entry.
-#[unsafe(no_mangle)]
-pub extern "C" fn famdrize_store_read(store: &[u32], entry: u8) -> Answer
+pub fn famdrize_store_read(store: &[u32], entry: u8) -> Answer
     ensures { done (reply_of result) store.now ≡ called (read entry) store.now }
 {
     given(store::read(store, entry))
 }
 
 // A write that carries a guard.
-#[unsafe(no_mangle)]
-pub extern "C" fn famdrize_store_write(
+pub fn famdrize_store_write(
     store: &mut [u32],
     entry: u8,
     value: u32,
@@ -68,32 +57,28 @@ pub extern "C" fn famdrize_store_write(
 }
 
 // A boundary before an entry.
-#[unsafe(no_mangle)]
-pub extern "C" fn famdrize_store_split(store: &mut [u32], entry: u8) -> Answer
+pub fn famdrize_store_split(store: &mut [u32], entry: u8) -> Answer
     ensures { done (reply_of result) store.new ≡ called (split entry) store.old }
 {
     given(store::split(store, entry))
 }
 
 // The boundary before an entry removed.
-#[unsafe(no_mangle)]
-pub extern "C" fn famdrize_store_merge(store: &mut [u32], entry: u8) -> Answer
+pub fn famdrize_store_merge(store: &mut [u32], entry: u8) -> Answer
     ensures { done (reply_of result) store.new ≡ called (merge entry) store.old }
 {
     given(store::merge(store, entry))
 }
 
 // The guards of the tablet that holds an entry become barred.
-#[unsafe(no_mangle)]
-pub extern "C" fn famdrize_store_restart(store: &mut [u32], entry: u8) -> Answer
+pub fn famdrize_store_restart(store: &mut [u32], entry: u8) -> Answer
     ensures { done (reply_of result) store.new ≡ called (restart entry) store.old }
 {
     given(store::restart(store, entry))
 }
 
 // The guard of an entry, and the first and the last entry of its interval.
-#[unsafe(no_mangle)]
-pub extern "C" fn famdrize_store_find_interval(store: &[u32], entry: u8) -> GuardInterval
+pub fn famdrize_store_find_interval(store: &[u32], entry: u8) -> GuardInterval
     ensures { interval_of result ≡ found_interval entry store.now }
 {
     let found = store::find_interval(store, entry);

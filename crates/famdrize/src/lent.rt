@@ -7,8 +7,7 @@ use crate::Answer;
 use requests::LentRequest;
 
 // How many pending requests of the player there are in the list.
-#[unsafe(no_mangle)]
-pub extern "C" fn famdrize_waiting(list: &[LentRequest], player: u8) -> Answer
+pub fn famdrize_waiting(list: &[LentRequest], player: u8) -> Answer
     ensures { reply_of result ≡ waiting player list.now }
 {
     let r = requests::lent::waiting(list, player);

@@ -1,4 +1,5 @@
-// The calls for programs in C or Rust (include/famdrize.h): numbers, lent slices of numbers, and structs of numbers laid out as C does.
+// The calls for programs in C or Rust (include/famdrize.h), which the crate famdrize_c exports: numbers, lent slices of numbers, and structs of numbers laid
+// out as C does.
 #![tactic(auto)]
 
 pub mod alone;

@@ -7,8 +7,7 @@ ghost use Rattle.famdrize.specs.Calls.{reply_of, report_of, stepped_preview};
 use crate::{Answer, Ended, Stated, given, refuse, step_fields};
 
 // The reply that the step of this kind with these fields would get.
-#[unsafe(no_mangle)]
-pub extern "C" fn famdrize_preview(
+pub fn famdrize_preview(
     store: &[u32],
     players: &[u32],
     kind: u8,
@@ -28,8 +27,7 @@ pub extern "C" fn famdrize_preview(
 }
 
 // The report and the replies that a run over the session would give, where a budget above 16 counts as 16.
-#[unsafe(no_mangle)]
-pub extern "C" fn famdrize_preview_run(
+pub fn famdrize_preview_run(
     store: &[u32],
     players: &[u32],
     session: &[u8],

@@ -38,8 +38,7 @@ fn record_with(length: u32, f: Fields) -> RecordFields
 }
 
 // The record that stands at the start of the part.
-#[unsafe(no_mangle)]
-pub extern "C" fn famdrize_decode(part: &[u8]) -> RecordFields
+pub fn famdrize_decode(part: &[u8]) -> RecordFields
     ensures { eight result ≡ decoded (decode part.now) }
 {
     let found = session::records::decode(part);
@@ -61,8 +60,7 @@ pub extern "C" fn famdrize_decode(part: &[u8]) -> RecordFields
 }
 
 // Writes the record of the step of this kind with these fields to the start of the buffer.
-#[unsafe(no_mangle)]
-pub extern "C" fn famdrize_encode(
+pub fn famdrize_encode(
     kind: u8,
     player: u8,
     entry: u8,
@@ -81,16 +79,14 @@ pub extern "C" fn famdrize_encode(
 }
 
 // Writes the mark to the start of the buffer.
-#[unsafe(no_mangle)]
-pub extern "C" fn famdrize_put_mark(out: &mut [u8]) -> Answer
+pub fn famdrize_put_mark(out: &mut [u8]) -> Answer
     ensures { wrote (reply_of result) out.new ≡ written mark out.old }
 {
     given(session::mark::put_mark(out))
 }
 
 // Whether the session begins with the mark.
-#[unsafe(no_mangle)]
-pub extern "C" fn famdrize_marked(session: &[u8]) -> bool
+pub fn famdrize_marked(session: &[u8]) -> bool
     ensures { result ≡ marked session.now }
 {
     session::mark::marked(session)

@@ -6,8 +6,7 @@ ghost use Rattle.famdrize.specs.Calls.{report_of};
 use crate::Ended;
 
 // Takes the steps of a session's records: at most `budget`, and at most as many as the list has whole places for their replies.
-#[unsafe(no_mangle)]
-pub extern "C" fn famdrize_run(
+pub fn famdrize_run(
     store: &mut [u32],
     players: &mut [u32],
     session: &[u8],

@@ -7,24 +7,21 @@ ghost use Rattle.session.specs.Fields.{six};
 use crate::{Answer, Stated, given, refuse, step_fields};
 
 // Makes both tables fresh.
-#[unsafe(no_mangle)]
-pub extern "C" fn famdrize_fresh(store: &mut [u32], players: &mut [u32]) -> Answer
+pub fn famdrize_fresh(store: &mut [u32], players: &mut [u32]) -> Answer
     ensures { left (reply_of result) store.new players.new ≡ made_fresh store.old players.old }
 {
     given(players::fresh(store, players))
 }
 
 // Whether both tables keep the rules.
-#[unsafe(no_mangle)]
-pub extern "C" fn famdrize_check(store: &[u32], players: &[u32]) -> Answer
+pub fn famdrize_check(store: &[u32], players: &[u32]) -> Answer
     ensures { reply_of result ≡ checked store.now players.now }
 {
     given(players::check(store, players))
 }
 
 // Takes the step of this kind with these fields.
-#[unsafe(no_mangle)]
-pub extern "C" fn famdrize_step(
+pub fn famdrize_step(
     store: &mut [u32],
     players: &mut [u32],
     kind: u8,
@@ -44,8 +41,7 @@ pub extern "C" fn famdrize_step(
 }
 
 // How many thousandths of the player's answered reads came from memory, and the remainder.
-#[unsafe(no_mangle)]
-pub extern "C" fn famdrize_share(store: &[u32], players: &[u32], player: u8) -> Answer
+pub fn famdrize_share(store: &[u32], players: &[u32], player: u8) -> Answer
     ensures { reply_of result ≡ shared player store.now players.now }
 {
     given(players::share(store, players, player))
