@@ -3,7 +3,7 @@ use crate::lengths::{PLAYERS, STORE};
 use crate::line::Line;
 use crate::{line, show, trial};
 use session::{Decoded, Fields, records};
-use std::io;
+use std::io::{self, Write};
 
 // A heading, which is printed as it stands.
 const HEADING: u8 = b'-';
@@ -53,8 +53,8 @@ fn step_of(n: [u32; 6]) -> Decoded {
 }
 
 // Takes a step, or previews it; where the tables may not change, says whether each is what it was.
-fn take(
-    out: &mut Vec<u8>,
+fn take<W: Write>(
+    out: &mut W,
     n: [u32; 6],
     call: u8,
     store: &mut [u32; STORE],
@@ -72,8 +72,8 @@ fn take(
 }
 
 // Makes the call that a line names.
-fn call(
-    out: &mut Vec<u8>,
+fn call<W: Write>(
+    out: &mut W,
     line: Line,
     store: &mut [u32; STORE],
     players: &mut [u32; PLAYERS],
@@ -102,8 +102,8 @@ fn call(
 }
 
 // One more byte of a line; at its end the call is made, and the next line begins.
-pub(crate) fn read_on(
-    out: &mut Vec<u8>,
+pub(crate) fn read_on<W: Write>(
+    out: &mut W,
     before: Line,
     byte: u8,
     store: &mut [u32; STORE],

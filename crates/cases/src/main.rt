@@ -13,31 +13,28 @@ use crate::lengths::{PLAYERS, STORE};
 use std::io::{self, Read, Write};
 
 // Room for the calls.
-const ROOM: u64 = 12288;
+const ROOM: usize = 12288;
 
-// Takes the calls of a text in turn, and prints each into a list of bytes.
-fn play(
-    out: &mut Vec<u8>,
+// Takes the calls of a text in turn, and prints each.
+fn play<W: Write>(
+    out: &mut W,
     text: &[u8],
     store: &mut [u32; STORE],
     players: &mut [u32; PLAYERS],
 ) -> io::Result<()> {
     let mut line = line::blank();
-    let mut i: usize = 0;
-    while i < text.len() {
-        line = calls::read_on(out, line, text[i], store, players)?;
-        i += 1;
+    for byte in text {
+        line = calls::read_on(out, line, *byte, store, players)?;
     }
     Ok(())
 }
 
 fn main(rt: HostRuntime) -> io::Result<()> {
-    let alloc = rt.alloc();
-    let mut text = Vec::new(alloc);
-    rt.stdin().take(ROOM).read_to_end(&mut text)?;
-    let mut out = Vec::new(alloc);
+    let mut text = [0u8; ROOM];
+    let mut room: &mut [u8] = &mut text;
+    let read = io::copy(&mut rt.stdin().take(ROOM as u64), &mut room)?;
     let mut store = [0u32; STORE];
     let mut players = [0u32; PLAYERS];
-    play(&mut out, &text, &mut store, &mut players)?;
-    rt.stdout().write_all(&out)
+    let text = &text[..ROOM.min(read as usize)];
+    play(&mut rt.stdout(), text, &mut store, &mut players)
 }

@@ -1,4 +1,4 @@
-// Text that is printed, in the documents' words. It is gathered in a list of bytes.
+// Text that is printed, in the documents' words.
 use players::Step;
 use session::kinds::fields_of;
 use session::{Report, kinds, records};
@@ -9,23 +9,23 @@ use store::Reply;
 const RECORD: usize = 14;
 
 // Some bytes.
-pub(crate) fn say(out: &mut Vec<u8>, text: &[u8]) -> io::Result<()> {
+pub(crate) fn say<W: Write>(out: &mut W, text: &[u8]) -> io::Result<()> {
     out.write_all(text)
 }
 
 // One byte.
-pub(crate) fn byte(out: &mut Vec<u8>, b: u8) -> io::Result<()> {
+pub(crate) fn byte<W: Write>(out: &mut W, b: u8) -> io::Result<()> {
     let one = [b];
     say(out, &one)
 }
 
 // A number after a space.
-pub(crate) fn number(out: &mut Vec<u8>, n: u32) -> io::Result<()> {
+pub(crate) fn number<W: Write>(out: &mut W, n: u32) -> io::Result<()> {
     write!(out, " {n}")
 }
 
 // The word for a kind; one that no case here takes has its number.
-fn kind(out: &mut Vec<u8>, kind: u8) -> io::Result<()> {
+fn kind<W: Write>(out: &mut W, kind: u8) -> io::Result<()> {
     match kind {
         kinds::ASSIGN => say(out, b"assign"),
         kinds::RELEASE => say(out, b"release"),
@@ -47,13 +47,13 @@ fn kind(out: &mut Vec<u8>, kind: u8) -> io::Result<()> {
 }
 
 // A kind by its number.
-fn other(out: &mut Vec<u8>, kind: u8) -> io::Result<()> {
+fn other<W: Write>(out: &mut W, kind: u8) -> io::Result<()> {
     say(out, b"kind")?;
     number(out, kind as u32)
 }
 
 // A field, where the lowest bit of the map stands.
-fn field(out: &mut Vec<u8>, map: u8, n: u32) -> io::Result<()> {
+fn field<W: Write>(out: &mut W, map: u8, n: u32) -> io::Result<()> {
     if map % 2 == 1 {
         number(out, n)?;
     }
@@ -61,7 +61,7 @@ fn field(out: &mut Vec<u8>, map: u8, n: u32) -> io::Result<()> {
 }
 
 // A step: its kind, and that kind's fields, those whose bit stands in the map of its record.
-pub(crate) fn step(out: &mut Vec<u8>, next: Step) -> io::Result<()> {
+pub(crate) fn step<W: Write>(out: &mut W, next: Step) -> io::Result<()> {
     let mut record = [0u8; RECORD];
     records::encode(next, &mut record);
     let map = record[0];
@@ -75,7 +75,7 @@ pub(crate) fn step(out: &mut Vec<u8>, next: Step) -> io::Result<()> {
 }
 
 // A reply: its code and two numbers.
-pub(crate) fn reply(out: &mut Vec<u8>, r: Reply) -> io::Result<()> {
+pub(crate) fn reply<W: Write>(out: &mut W, r: Reply) -> io::Result<()> {
     say(out, b":")?;
     number(out, r.code)?;
     number(out, r.a)?;
@@ -83,7 +83,7 @@ pub(crate) fn reply(out: &mut Vec<u8>, r: Reply) -> io::Result<()> {
 }
 
 // A report: why a run stopped, the records taken and the place after them.
-pub(crate) fn report(out: &mut Vec<u8>, r: Report) -> io::Result<()> {
+pub(crate) fn report<W: Write>(out: &mut W, r: Report) -> io::Result<()> {
     say(out, b":")?;
     number(out, r.why)?;
     number(out, r.records)?;
@@ -91,7 +91,7 @@ pub(crate) fn report(out: &mut Vec<u8>, r: Report) -> io::Result<()> {
 }
 
 // A word that is put into a table.
-pub(crate) fn put(out: &mut Vec<u8>, at: u32, word: u32) -> io::Result<()> {
+pub(crate) fn put<W: Write>(out: &mut W, at: u32, word: u32) -> io::Result<()> {
     say(out, b"word")?;
     number(out, at)?;
     say(out, b" becomes")?;
@@ -100,7 +100,7 @@ pub(crate) fn put(out: &mut Vec<u8>, at: u32, word: u32) -> io::Result<()> {
 }
 
 // How many words of each table are lent.
-pub(crate) fn lent(out: &mut Vec<u8>, first: u32, second: u32) -> io::Result<()> {
+pub(crate) fn lent<W: Write>(out: &mut W, first: u32, second: u32) -> io::Result<()> {
     say(out, b"words")?;
     number(out, first)?;
     number(out, second)

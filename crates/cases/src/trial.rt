@@ -4,7 +4,7 @@ ghost use Rattle.std.specs.Prelude.{◌≡◌, true};
 use crate::lengths::{PLAYERS, STORE};
 use crate::show;
 use players::Step;
-use std::io;
+use std::io::{self, Write};
 use steps::{previews, running};
 use store::words;
 
@@ -12,8 +12,8 @@ use store::words;
 const EMPTY: [u8; 4] = *b"RSL1";
 
 // Makes the tables fresh.
-pub(crate) fn fresh(
-    out: &mut Vec<u8>,
+pub(crate) fn fresh<W: Write>(
+    out: &mut W,
     store: &mut [u32; STORE],
     players: &mut [u32; PLAYERS],
 ) -> io::Result<()> {
@@ -23,8 +23,8 @@ pub(crate) fn fresh(
 }
 
 // Takes a step.
-pub(crate) fn step(
-    out: &mut Vec<u8>,
+pub(crate) fn step<W: Write>(
+    out: &mut W,
     store: &mut [u32; STORE],
     players: &mut [u32; PLAYERS],
     next: Step,
@@ -34,8 +34,8 @@ pub(crate) fn step(
 }
 
 // The share of the player's reads that came from memory.
-pub(crate) fn share(
-    out: &mut Vec<u8>,
+pub(crate) fn share<W: Write>(
+    out: &mut W,
     store: &[u32],
     players: &[u32],
     player: u8,
@@ -59,8 +59,8 @@ pub(crate) fn reads(
 }
 
 // Takes a step, or previews it, and says whether each table is what it was.
-pub(crate) fn same_step(
-    out: &mut Vec<u8>,
+pub(crate) fn same_step<W: Write>(
+    out: &mut W,
     store: &mut [u32; STORE],
     players: &mut [u32; PLAYERS],
     next: Step,
@@ -81,8 +81,8 @@ pub(crate) fn same_step(
 }
 
 // Tests the tables, runs over a session without records and previews that, and says whether each table is what it was.
-pub(crate) fn same_check(
-    out: &mut Vec<u8>,
+pub(crate) fn same_check<W: Write>(
+    out: &mut W,
     store: &mut [u32; STORE],
     players: &mut [u32; PLAYERS],
 ) -> io::Result<()> {
@@ -97,7 +97,7 @@ pub(crate) fn same_check(
 }
 
 // What the tables' test replies, and what a run over a session without records reports, and its preview.
-fn tests_shown(out: &mut Vec<u8>, store: &mut [u32], players: &mut [u32]) -> io::Result<()> {
+fn tests_shown<W: Write>(out: &mut W, store: &mut [u32], players: &mut [u32]) -> io::Result<()> {
     let session = EMPTY;
     let mut replies = [0u32; 3];
     show::say(out, b"check")?;
@@ -112,8 +112,8 @@ fn tests_shown(out: &mut Vec<u8>, store: &mut [u32], players: &mut [u32]) -> io:
 }
 
 // A step and its reply.
-fn step_shown(
-    out: &mut Vec<u8>,
+fn step_shown<W: Write>(
+    out: &mut W,
     store: &mut [u32],
     players: &mut [u32],
     next: Step,
@@ -123,22 +123,32 @@ fn step_shown(
 }
 
 // A step and the reply that it would get.
-fn preview_shown(out: &mut Vec<u8>, store: &[u32], players: &[u32], next: Step) -> io::Result<()> {
+fn preview_shown<W: Write>(
+    out: &mut W,
+    store: &[u32],
+    players: &[u32],
+    next: Step,
+) -> io::Result<()> {
     show::say(out, b"ahead ")?;
     show::step(out, next)?;
     show::reply(out, previews::preview(store, players, next))
 }
 
 // A player and the share of its reads that came from memory.
-fn share_shown(out: &mut Vec<u8>, store: &[u32], players: &[u32], player: u8) -> io::Result<()> {
+fn share_shown<W: Write>(
+    out: &mut W,
+    store: &[u32],
+    players: &[u32],
+    player: u8,
+) -> io::Result<()> {
     show::say(out, b"memory")?;
     show::number(out, player as u32)?;
     show::reply(out, players::share(store, players, player))
 }
 
 // Lends the first words alone, of tables in which every word is 7, and says whether each table is what it was.
-pub(crate) fn same_part(
-    out: &mut Vec<u8>,
+pub(crate) fn same_part<W: Write>(
+    out: &mut W,
     store: &mut [u32; STORE],
     first: u32,
     players: &mut [u32; PLAYERS],
@@ -156,8 +166,8 @@ pub(crate) fn same_part(
 }
 
 // The first words of each table.
-fn part(
-    out: &mut Vec<u8>,
+fn part<W: Write>(
+    out: &mut W,
     store: &mut [u32],
     n: usize,
     players: &mut [u32],
@@ -173,7 +183,7 @@ fn part(
 }
 
 // Makes tables fresh, takes two steps, previews one, and asks for a share.
-fn both(out: &mut Vec<u8>, store: &mut [u32], players: &mut [u32]) -> io::Result<()> {
+fn both<W: Write>(out: &mut W, store: &mut [u32], players: &mut [u32]) -> io::Result<()> {
     show::say(out, b", fresh")?;
     show::reply(out, players::fresh(store, players))?;
     then(out, store, players, Step::Split { entry: 9 })?;
@@ -185,13 +195,18 @@ fn both(out: &mut Vec<u8>, store: &mut [u32], players: &mut [u32]) -> io::Result
 }
 
 // Takes a step after other calls of the line.
-fn then(out: &mut Vec<u8>, store: &mut [u32], players: &mut [u32], next: Step) -> io::Result<()> {
+fn then<W: Write>(
+    out: &mut W,
+    store: &mut [u32],
+    players: &mut [u32],
+    next: Step,
+) -> io::Result<()> {
     show::say(out, b", ")?;
     step_shown(out, store, players, next)
 }
 
 // Puts a word into a table.
-pub(crate) fn put(out: &mut Vec<u8>, table: &mut [u32], at: u32, word: u32) -> io::Result<()> {
+pub(crate) fn put<W: Write>(out: &mut W, table: &mut [u32], at: u32, word: u32) -> io::Result<()> {
     let i = at as usize;
     if i < table.len() {
         table[i] = word;
@@ -201,7 +216,7 @@ pub(crate) fn put(out: &mut Vec<u8>, table: &mut [u32], at: u32, word: u32) -> i
 }
 
 // Says whether a table is word for word what it was.
-fn same(out: &mut Vec<u8>, now: &[u32], before: &[u32]) -> io::Result<()> {
+fn same<W: Write>(out: &mut W, now: &[u32], before: &[u32]) -> io::Result<()> {
     if are_same(now, before) {
         show::say(out, b" same")
     } else {

@@ -19,7 +19,7 @@ const PLACES: usize = 5460;
 const ROOM: usize = 240304;
 
 // One byte more than the longest session: what is longer is refused, whatever follows.
-const MOST_READ: u64 = sizes::LONGEST as u64 + 1;
+const MOST_READ: usize = sizes::LONGEST + 1;
 
 // Puts the line of the reply that stands at a place of the list, and gives the place after it.
 fn reply_line(replies: &[u32], i: usize, out: &mut [u8], at: usize) -> usize
@@ -75,10 +75,10 @@ fn list(session: &[u8], out: &mut [u8]) -> usize
 }
 
 fn main(rt: HostRuntime) -> io::Result<()> {
-    let alloc = rt.alloc();
-    let mut session = Vec::new(alloc);
-    rt.stdin().take(MOST_READ).read_to_end(&mut session)?;
-    let mut out = vec![in alloc; 0u8; ROOM]?;
-    let n = list(&session, &mut out);
+    let mut session = [0u8; MOST_READ];
+    let mut room: &mut [u8] = &mut session;
+    let read = io::copy(&mut rt.stdin().take(MOST_READ as u64), &mut room)?;
+    let mut out = [0u8; ROOM];
+    let n = list(&session[..MOST_READ.min(read as usize)], &mut out);
     rt.stdout().write_all(&out[..n])
 }
