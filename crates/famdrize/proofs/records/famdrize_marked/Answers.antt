@@ -1,0 +1,7 @@
+-- `famdrize::records::famdrize_marked` meets its contract: that of the function that it calls. (The check finds this by itself, but comes to a limit where a wrong
+-- body has no proof.)
+-- Assumes nothing.
+use Rattle.famdrize.proofs.records.famdrize_marked.Goals as goal
+
+pub returns : goal.returns
+returns c = c.marked.ensures

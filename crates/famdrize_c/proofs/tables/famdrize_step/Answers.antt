@@ -1,0 +1,7 @@
+-- `famdrize_c::tables::famdrize_step` meets its contract: that of the function that it calls. (The check finds this by itself, but comes to a limit where a
+-- wrong body has no proof.)
+-- Assumes nothing.
+use Rattle.famdrize_c.proofs.tables.famdrize_step.Goals as goal
+
+pub returns : goal.returns
+returns c = c.famdrize_step.ensures
