@@ -25,8 +25,7 @@ use Rattle.players.specs.Table.{cell, held_at, requests_at, state_of, table_of, 
 use Rattle.players.specs.Calls.{Done, left as leaves, whole}
 use Rattle.players.specs.Played.{taken, state_after}
 use Rattle.players.specs.Cases.{range}
-use Rattle.session.specs.declared.Decoded.{Decoded}
-use Rattle.session.specs.declared.Decoded.TheVariants.{Record, Refused}
+use Rattle.session.specs.Decoded.{Decoded, Record, Refused}
 use Rattle.players.specs.Kinds.{stands, map_of, kind_and_fields, kind, step_of}
 use Rattle.session.specs.Layout.{widths, fields_length, record_length, fields}
 use Rattle.session.specs.Records.{tested, decode}

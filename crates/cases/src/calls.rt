@@ -1,121 +1,140 @@
 // The calls that a line can name, by its first letter.
-use crate::lengths::{PLAYERS, STORE};
-use crate::line::Line;
-use crate::{line, show, trial};
-use session::{Decoded, Fields, records};
+use crate::tables::Tables;
+use crate::{line, trial};
+use players::Step;
+use session::{Fields, records};
+use std::fmt;
 use std::io::{self, Write};
 
-// A heading, which is printed as it stands.
-const HEADING: u8 = b'-';
-
-// A remark, which is passed over, as an empty line is.
-const REMARK: u8 = b'#';
-
-// `fresh`: the tables are made fresh.
-const FRESH: u8 = b'f';
-
-// `take KIND PLAYER ENTRY HIGH VALUE SERIAL`: a step, by its fields, those that its kind lacks 0.
-const TAKE: u8 = b't';
-
-// `keep KIND PLAYER ENTRY HIGH VALUE SERIAL`: a step, and whether each table is what it was.
-const KEEP: u8 = b'k';
-
-// `ahead KIND PLAYER ENTRY HIGH VALUE SERIAL`: a preview of a step, and whether each table is what it was.
-const AHEAD: u8 = b'a';
-
-// `check`: a test of the tables, a run over a session without records and its preview, and whether each table is what it was.
-const CHECK: u8 = b'c';
-
-// `memory PLAYER`: the share of the player's reads that came from memory.
-const MEMORY: u8 = b'm';
-
-// `reads TIMES PLAYER`: the player, 0 where none is named, reads entry 0 so many times; nothing is printed.
-const READS: u8 = b'r';
-
-// `store PLACE WORD`, `players PLACE WORD`: a word of a table is changed.
-const STORE_WORD: u8 = b's';
-
-const PLAYERS_WORD: u8 = b'p';
-
-// `lend STORE PLAYERS`: so many words of each table are lent.
-const LEND: u8 = b'l';
-
-// What the record of the fields stands for. Numbers are cut to the width of their field.
-fn step_of(n: [u32; 6]) -> Decoded {
-    records::of_fields(Fields {
-        kind: (n[0] % 256) as u8,
-        player: (n[1] % 256) as u8,
-        entry: (n[2] % 256) as u8,
-        high: (n[3] % 65536) as u16,
-        value: n[4],
-        serial: n[5],
-    })
+// A call, with what its numbers say; those that the line lacks are 0, and each is cut to the width of its field.
+#[derive(Clone, Copy)]
+enum Call {
+    // `fresh`: the tables are made fresh.
+    Fresh,
+    // `take KIND PLAYER ENTRY HIGH VALUE SERIAL`: a step, by its fields, those that its kind lacks 0.
+    Take(Step),
+    // `keep KIND PLAYER ENTRY HIGH VALUE SERIAL`: a step, and whether each table is what it was.
+    Keep(Step),
+    // `ahead KIND PLAYER ENTRY HIGH VALUE SERIAL`: a preview of a step, and whether each table is what it was.
+    Ahead(Step),
+    // `check`: a test of the tables, a run over a session without records and its preview, and whether each table is what it was.
+    Check,
+    // `memory PLAYER`: the share of the player's reads that came from memory.
+    Memory { player: u8 },
+    // `reads TIMES PLAYER`: the player, 0 where none is named, reads entry 0 so many times; nothing is printed.
+    Reads { times: u32, player: u8 },
+    // `store PLACE WORD`, `players PLACE WORD`: a word of a table is changed.
+    Store { place: u32, word: u32 },
+    Players { place: u32, word: u32 },
+    // `lend STORE PLAYERS`: so many words of each table are lent.
+    Lend { store: u32, players: u32 },
+    // `# ..`, or an empty line, is passed over.
+    Remark,
 }
 
-// Takes a step, or previews it; where the tables may not change, says whether each is what it was.
-fn take<W: Write>(
-    out: &mut W,
-    n: [u32; 6],
-    call: u8,
-    store: &mut [u32; STORE],
-    players: &mut [u32; PLAYERS],
-) -> io::Result<()> {
-    let found = step_of(n);
-    match found {
-        Decoded::Record { step, length } => match call {
-            AHEAD => trial::same_step(out, store, players, step, true),
-            KEEP => trial::same_step(out, store, players, step, false),
-            _ => trial::step(out, store, players, step),
-        },
-        Decoded::Refused(why) => show::say(out, b"no step\n"),
+// Why a line makes no call.
+#[derive(Clone, Copy)]
+enum Unmade {
+    // No call has this letter.
+    NoCall,
+    // No step has this kind.
+    NoStep,
+}
+
+impl fmt::Display for Unmade {
+    fn fmt<W: fmt::Write>(&self, f: &mut fmt::Formatter<W>) -> fmt::Result {
+        match self {
+            Unmade::NoCall => f.write_str("no call"),
+            Unmade::NoStep => f.write_str("no step"),
+        }
     }
 }
 
-// Makes the call that a line names.
-fn call<W: Write>(
-    out: &mut W,
-    line: Line,
-    store: &mut [u32; STORE],
-    players: &mut [u32; PLAYERS],
-) -> io::Result<()> {
-    let first = line.first;
-    let n = line.numbers;
-    match first {
-        FRESH => trial::fresh(out, store, players),
-        TAKE => take(out, n, TAKE, store, players),
-        KEEP => take(out, n, KEEP, store, players),
-        AHEAD => take(out, n, AHEAD, store, players),
-        CHECK => trial::same_check(out, store, players),
-        MEMORY => trial::share(out, store, players, (n[0] % 256) as u8),
-        READS => {
-            trial::reads(store, players, n[0], (n[1] % 256) as u8);
+// The step whose fields are these numbers.
+fn step_of([kind, player, entry, high, value, serial]: [u32; 6]) -> Result<Step, Unmade> {
+    let fields = Fields {
+        kind: (kind % 256) as u8,
+        player: (player % 256) as u8,
+        entry: (entry % 256) as u8,
+        high: (high % 65536) as u16,
+        value,
+        serial,
+    };
+    match records::of_fields(fields) {
+        Ok(record) => Ok(record.step),
+        Err(_) => Err(Unmade::NoStep),
+    }
+}
+
+impl TryFrom<&[u8]> for Call {
+    type Error = Unmade;
+
+    fn try_from(text: &[u8]) -> Result<Call, Unmade> {
+        let Some((letter, rest)) = text.split_first() else {
+            return Ok(Call::Remark);
+        };
+        let numbers = line::numbers(rest);
+        let [first, second, ..] = numbers;
+        match letter {
+            b'f' => Ok(Call::Fresh),
+            b't' => Ok(Call::Take(step_of(numbers)?)),
+            b'k' => Ok(Call::Keep(step_of(numbers)?)),
+            b'a' => Ok(Call::Ahead(step_of(numbers)?)),
+            b'c' => Ok(Call::Check),
+            b'm' => Ok(Call::Memory {
+                player: (first % 256) as u8,
+            }),
+            b'r' => Ok(Call::Reads {
+                times: first,
+                player: (second % 256) as u8,
+            }),
+            b's' => Ok(Call::Store {
+                place: first,
+                word: second,
+            }),
+            b'p' => Ok(Call::Players {
+                place: first,
+                word: second,
+            }),
+            b'l' => Ok(Call::Lend {
+                store: first,
+                players: second,
+            }),
+            b'#' | b'\n' => Ok(Call::Remark),
+            _ => Err(Unmade::NoCall),
+        }
+    }
+}
+
+// Makes a call, and prints it.
+fn make<W: Write>(out: &mut W, call: Call, tables: &mut Tables) -> io::Result<()> {
+    match call {
+        Call::Fresh => trial::fresh(out, tables),
+        Call::Take(step) => trial::step(out, tables, step),
+        Call::Keep(step) => trial::same_step(out, tables, step),
+        Call::Ahead(step) => trial::same_preview(out, tables, step),
+        Call::Check => trial::same_check(out, tables),
+        Call::Memory { player } => trial::share(out, tables, player),
+        Call::Reads { times, player } => {
+            trial::reads(tables, times, player);
             Ok(())
         }
-        STORE_WORD => trial::put(out, store, n[0], n[1]),
-        PLAYERS_WORD => trial::put(out, players, n[0], n[1]),
-        LEND => trial::same_part(out, store, n[0], players, n[1]),
-        HEADING => Ok(()),
-        REMARK => Ok(()),
-        b'\n' => Ok(()),
-        _ => show::say(out, b"no call\n"),
+        Call::Store { place, word } => trial::put(out, &mut tables.store, place, word),
+        Call::Players { place, word } => trial::put(out, &mut tables.players, place, word),
+        Call::Lend { store, players } => trial::same_part(out, tables, store, players),
+        Call::Remark => Ok(()),
     }
 }
 
-// One more byte of a line; at its end the call is made, and the next line begins.
-pub(crate) fn read_on<W: Write>(
-    out: &mut W,
-    before: Line,
-    byte: u8,
-    store: &mut [u32; STORE],
-    players: &mut [u32; PLAYERS],
-) -> io::Result<Line> {
-    let line = line::read_on(before, byte);
-    if line.first == HEADING {
-        show::byte(out, byte)?;
+// Makes the call of a line: zero bytes before it are passed over, a heading (`- ..`) is printed as it stands, and a line with no end makes no call.
+pub(crate) fn play<W: Write>(out: &mut W, line: &[u8], tables: &mut Tables) -> io::Result<()> {
+    let text = line::begun(line);
+    match text {
+        [b'-', ..] => out.write_all(text),
+        [.., b'\n'] => match Call::try_from(text) {
+            Ok(call) => make(out, call, tables),
+            Err(why) => writeln!(out, "{why}"),
+        },
+        _ => Ok(()),
     }
-    if byte != b'\n' {
-        return Ok(line);
-    }
-    call(out, line, store, players)?;
-    Ok(line::blank())
 }

@@ -4,27 +4,21 @@
 #![tactic(auto)]
 
 mod calls;
-mod lengths;
 mod line;
 mod show;
+mod tables;
 mod trial;
 
-use crate::lengths::{PLAYERS, STORE};
+use crate::tables::Tables;
 use std::io::{self, Read, Write};
 
 // Room for the calls.
 const ROOM: usize = 12288;
 
 // Takes the calls of a text in turn, and prints each.
-fn play<W: Write>(
-    out: &mut W,
-    text: &[u8],
-    store: &mut [u32; STORE],
-    players: &mut [u32; PLAYERS],
-) -> io::Result<()> {
-    let mut line = line::blank();
-    for byte in text {
-        line = calls::read_on(out, line, *byte, store, players)?;
+fn play<W: Write>(out: &mut W, text: &[u8], tables: &mut Tables) -> io::Result<()> {
+    for line in text.split_inclusive(|byte| *byte == b'\n') {
+        calls::play(out, line, tables)?;
     }
     Ok(())
 }
@@ -33,8 +27,7 @@ fn main(rt: HostRuntime) -> io::Result<()> {
     let mut text = [0u8; ROOM];
     let mut room: &mut [u8] = &mut text;
     let read = io::copy(&mut rt.stdin().take(ROOM as u64), &mut room)?;
-    let mut store = [0u32; STORE];
-    let mut players = [0u32; PLAYERS];
+    let mut tables = Tables::filled(0);
     let text = &text[..ROOM.min(read as usize)];
-    play(&mut rt.stdout(), text, &mut store, &mut players)
+    play(&mut rt.stdout(), text, &mut tables)
 }

@@ -4,6 +4,7 @@ use Rattle.std.specs.Prelude.{Bool, true, false, cond, ◌&&◌, ℕ, ◌+◌, �
 use Rattle.store.specs.declared.Reply.{Reply}
 use Rattle.store.specs.Calls.{reply}
 use Rattle.counters.specs.declared.Counts.{Counts}
+use Rattle.counters.specs.declared.Share.{Share}
 
 -- ‘above 4,000,000,000’: the largest count
 abbrev pub most : ℕ
@@ -38,3 +39,7 @@ sound c = leb c.hits c.answered && leb c.answered most
 unfoldable pub share : Counts → Reply
 share c =
     cond (eqb c.answered 0) (reply 39 0 0) (reply 0 (1000 * c.hits / c.answered) (1000 * c.hits % c.answered))
+
+-- the reply that a share is
+abbrev pub of_share : Share → Reply
+of_share s = reply 0 s.thousandths s.rest

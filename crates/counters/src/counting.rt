@@ -1,72 +1,77 @@
-// The counts of one player: how a read is counted, their rule, and the share.
-ghost use Rattle.std.specs.Prelude.{◌≡◌, ◌≤◌};
-ghost use Rattle.counters.specs.Model.{one_if, counted, counted_by, sound, share};
+//! The counts of one player: how a read is counted, their rule, and the share.
 
-use crate::{Counts, layout};
-use store::{Reply, codes};
+use crate::{Counts, Share, layout};
+use store::{Outcome, Refusal, Reply, codes};
 
-// 1 for a read from memory.
-fn one_if(hit: bool) -> u32
-    ensures { result ≡ one_if hit }
-{
-    if hit { 1 } else { 0 }
+impl Counts {
+    ghost use Rattle.std.specs.Prelude.{◌≡◌, ◌≤◌};
+    ghost use Rattle.counters.specs.Model.{counted, counted_by, sound, share, of_share};
+    ghost use Rattle.store.specs.Answers.{as_reply};
+
+    /// One more answered read, from memory or not; where a count would be above the largest, both stay as they are.
+    #[tactic(auto, unfolding(crate::specs::Model::counted))]
+    fn counted(self, hit: bool) -> Counts
+        ensures { result ≡ counted self hit }
+    {
+        let more = Counts {
+            answered: self.answered.saturating_add(1),
+            hits: self.hits.saturating_add(hit.into()),
+        };
+        if more.answered <= layout::MOST && more.hits <= layout::MOST {
+            more
+        } else {
+            self
+        }
+    }
+
+    /// Brings the counts up to date by the code of a reply to their player (document: "one tally is lent to each step and brought up to date
+    /// there"). A number, as the clause speaks of any code.
+    #[tactic(auto, unfolding(crate::specs::Model::counted_by))]
+    pub fn count(&mut self, code: u32)
+        ensures { self.new ≡ counted_by self.old code }
+    {
+        match code {
+            codes::CACHE_READ => *self = self.counted(true),
+            codes::STORE_READ => *self = self.counted(false),
+            _ => {}
+        }
+    }
+
+    /// Whether there are no more reads from memory than answered reads, and no count is above the largest.
+    pub(crate) fn is_sound(self) -> bool
+        ensures { result ≡ sound self }
+    {
+        self.hits <= self.answered && self.answered <= layout::MOST
+    }
+
+    /// The share of reads from memory.
+    #[tactic(auto, unfolding(crate::specs::Model::share))]
+    pub(crate) fn share(self) -> Result<Share, Refusal>
+        requires { self.hits ≤ self.answered }
+        ensures { as_reply of_share result ≡ share self }
+    {
+        if self.answered == 0 {
+            return Err(Refusal::NoAnsweredRead);
+        }
+        let answered = u64::from(self.answered);
+        let thousandths = 1000 * u64::from(self.hits);
+        Ok(Share {
+            thousandths: (thousandths / answered) as u32,
+            rest: (thousandths % answered) as u32,
+        })
+    }
 }
 
-// One more answered read, from memory or not; where a count would be above the largest, both stay as they are.
-fn counted(counts: Counts, hit: bool) -> Counts
-    ensures { result ≡ counted counts hit }
-{
-    let answered = counts.answered;
-    let hits = counts.hits;
-    if answered >= layout::MOST {
-        return counts;
-    }
-    let more = one_if(hit);
-    if hits > layout::MOST - more {
-        return counts;
-    }
-    Counts {
-        answered: answered + 1,
-        hits: hits + more,
-    }
-}
+impl Outcome for Share {
+    ghost use Rattle.counters.specs.Model.{of_share};
 
-// The counts after a reply with this code to the player.
-pub(crate) fn counted_by(counts: Counts, code: u32) -> Counts
-    ensures { result ≡ counted_by counts code }
-{
-    if code == codes::CACHE_READ {
-        return counted(counts, true);
-    }
-    if code == codes::STORE_READ {
-        return counted(counts, false);
-    }
-    counts
-}
+    ghost replied = { of_share };
 
-// Whether there are no more reads from memory than answered reads, and no count is above the largest.
-pub(crate) fn is_sound(counts: Counts) -> bool
-    ensures { result ≡ sound counts }
-{
-    let answered = counts.answered;
-    let hits = counts.hits;
-    (hits <= answered) & (answered <= layout::MOST)
-}
-
-// The share of reads from memory, in thousandths and what is left over.
-pub(crate) fn share(counts: Counts) -> Reply
-    requires { counts.hits ≤ counts.answered }
-    ensures { result ≡ share counts }
-{
-    let answered = counts.answered as u64;
-    let hits = counts.hits as u64;
-    if answered == 0 {
-        return store::refuse(codes::NO_ANSWERED_READ);
-    }
-    let thousandths = 1000 * hits;
-    Reply {
-        code: codes::DONE,
-        a: (thousandths / answered) as u32,
-        b: (thousandths % answered) as u32,
+    fn reply(self) -> Reply {
+        Reply {
+            code: codes::DONE,
+            a: self.thousandths,
+            b: self.rest,
+        }
     }
 }

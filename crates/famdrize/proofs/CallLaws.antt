@@ -9,8 +9,8 @@ use Rattle.players.specs.Calls.{left}
 use Rattle.players.specs.Kinds.{Fits}
 use Rattle.players.specs.Played.{taken}
 use Rattle.session.specs.Fields.{six}
-use Rattle.famdrize.specs.declared.Stated.{Stated}
-use Rattle.famdrize.specs.declared.Stated.TheVariants.{Taken, Refused}
+use Rattle.famdrize.specs.Fields.{Stated}
+use Rattle.famdrize.specs.Fields.{Taken, Refused}
 use Rattle.famdrize.specs.Fields.{stated}
 use Rattle.famdrize.specs.Calls.{stepped, step_taken}
 use Rattle.famdrize.proofs.FieldLaws.{stated_fits}

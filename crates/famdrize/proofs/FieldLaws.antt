@@ -13,13 +13,13 @@ use Rattle.players.specs.Kinds.{stands, map_of, in_force, kind_and_fields, kind,
 use Rattle.players.proofs.StepCases.{known}
 use Rattle.players.proofs.KindLaws.{kind_map, fields_made, kind_made, fits_by}
 use Rattle.session.specs.Layout.{record_length}
-use Rattle.session.specs.declared.Decoded.TheVariants.{Record, Refused as Unread}
+use Rattle.session.specs.Decoded.{Record, Refused as Unread}
 use Rattle.session.specs.Records.{unknown_kind, wrong_fields, of_numbers}
 use Rattle.session.specs.Fields.{standing, six}
 use Rattle.session.proofs.FieldLaws.{count_standing, first_standing}
 use Rattle.session.proofs.EncodeLaws.{first_number, standing-spread}
-use Rattle.famdrize.specs.declared.Stated.{Stated}
-use Rattle.famdrize.specs.declared.Stated.TheVariants.{Taken, Refused}
+use Rattle.famdrize.specs.Fields.{Stated}
+use Rattle.famdrize.specs.Fields.{Taken, Refused}
 use Rattle.famdrize.specs.Fields.{others_zero, agree, stated, on_stated}
 
 -- ---- of any map

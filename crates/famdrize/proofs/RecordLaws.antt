@@ -7,15 +7,14 @@ use Prim.Native.Nat.{ℕ, ◌+◌, ◌/◌, ◌≤◌}
 use native.Mathlib.Omega.{arith}
 use lib.ListN.{length}
 use Rattle.players.specs.declared.Step.{Step}
-use Rattle.session.specs.declared.Decoded.{Decoded}
-use Rattle.session.specs.declared.Decoded.TheVariants.{Record, Refused}
+use Rattle.session.specs.Decoded.{Decoded, Record, Refused}
 use Rattle.players.specs.Kinds.{stands, numbers_of}
 use Rattle.session.specs.Layout.{widths, fields_length, record_length}
 use Rattle.session.specs.Records.{map_at, decode, encode}
 use Rattle.session.specs.Fields.{six}
 use Rattle.session.proofs.Tested.{Outcome, refuses, accepts, outcome}
 use Rattle.session.proofs.RoundTrip.{read_back}
-use Rattle.famdrize.specs.declared.Stated.TheVariants.{Taken}
+use Rattle.famdrize.specs.Fields.{Taken}
 use Rattle.famdrize.specs.Fields.{stated}
 use Rattle.famdrize.specs.Calls.{decoded}
 use Rattle.famdrize.proofs.FieldLaws.{numbers_back, only_numbers}

@@ -10,13 +10,12 @@ use Rattle.players.specs.Replies.{first_refusal, refusal}
 use Rattle.players.specs.Calls.{Done, left}
 use Rattle.players.specs.Played.{taken}
 use Rattle.players.proofs.Refusals.{Keeps as KeepsTables, step_keeps}
-use Rattle.session.specs.declared.Decoded.{Decoded}
-use Rattle.session.specs.declared.Decoded.TheVariants.{Record, Refused}
+use Rattle.session.specs.Decoded.{Decoded, Record, Refused}
 use Rattle.session.specs.Records.{encode}
 use Rattle.session.specs.Written.{wrote, written}
 use Rattle.session.proofs.Refusals.{Keeps as KeepsBuffer, written_keeps}
-use Rattle.famdrize.specs.declared.Stated.{Stated}
-use Rattle.famdrize.specs.declared.Stated.TheVariants.{Taken, Refused as NotStated}
+use Rattle.famdrize.specs.Fields.{Stated}
+use Rattle.famdrize.specs.Fields.{Taken, Refused as NotStated}
 use Rattle.famdrize.specs.Fields.{stated, on_stated}
 use Rattle.famdrize.specs.Calls.{stepped, stepped_preview, recorded, decoded}
 

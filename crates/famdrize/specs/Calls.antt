@@ -2,18 +2,16 @@
 -- Assumes nothing.
 use Rattle.std.specs.Prelude.{List, [], ◌∷◌, ℕ}
 use Rattle.store.specs.declared.Reply.{Reply}
-use Rattle.store.specs.declared.Interval.{Interval}
-use Rattle.store.specs.Calls.{guard_interval}
+use Rattle.store.specs.Calls.{IntervalReply, guard_interval}
 use Rattle.players.specs.declared.Step.{Step}
 use Rattle.players.specs.Replies.{reply, refusal}
 use Rattle.players.specs.Calls.{Done, left}
 use Rattle.players.specs.Played.{taken}
-use Rattle.session.specs.declared.Decoded.{Decoded}
-use Rattle.session.specs.declared.Decoded.TheVariants.{Record, Refused}
+use Rattle.session.specs.Decoded.{Decoded, Record, Refused}
 use Rattle.session.specs.Records.{encode}
 use Rattle.players.specs.Kinds.{numbers_of}
 use Rattle.session.specs.Written.{Wrote, wrote, written}
-use Rattle.session.specs.declared.Report.{Report}
+use Rattle.session.specs.Reports.{Report}
 use Rattle.session.specs.Runs.{report}
 use Rattle.famdrize.specs.declared.Answer.{Answer}
 use Rattle.famdrize.specs.declared.Ended.{Ended}
@@ -26,7 +24,7 @@ abbrev pub reply_of : Answer → Reply
 reply_of x = reply x.code x.a x.b
 
 -- the answer of the store's call that finds an interval
-abbrev pub interval_of : GuardInterval → Interval
+abbrev pub interval_of : GuardInterval → IntervalReply
 interval_of x = guard_interval x.code x.guard x.first x.last
 
 -- the report that a run's end is

@@ -7,7 +7,7 @@ use Rattle.players.specs.Kinds.{last_kind, map_of, step_of, spread}
 use Rattle.session.specs.Layout.{record_length, fields_length, fields}
 use Rattle.session.specs.Records.{unknown_kind, wrong_fields, tested, decode}
 use Rattle.session.specs.Fields.{standing, six}
-use Rattle.famdrize.specs.declared.Stated.TheVariants.{Taken, Refused}
+use Rattle.famdrize.specs.Fields.{Taken, Refused}
 use Rattle.famdrize.specs.Fields.{others_zero, stated}
 use Rattle.famdrize.specs.Calls.{decoded}
 

@@ -1,12 +1,12 @@
 -- The step of six numbers (session/specs/Fields), or why they stand for none. Quoted words are document 01's.
 -- Assumes nothing.
-use Rattle.std.specs.Prelude.{Bool, true, cond, ◌&&◌, List, [], ◌∷◌, ℕ, ◌/◌, eqb, get_or, drop}
+use Rattle.std.specs.Prelude.{Result, Ok, Err, Bool, true, cond, ◌&&◌, List, [], ◌∷◌, ℕ, ◌/◌, eqb, get_or, drop}
 use Rattle.players.specs.declared.Step.{Step}
 use Rattle.players.specs.Kinds.{stands, map_of, in_force, step_of}
 use Rattle.session.specs.Records.{unknown_kind, wrong_fields}
 use Rattle.session.specs.Fields.{standing}
-use Rattle.famdrize.specs.declared.Stated.{Stated}
-use Rattle.famdrize.specs.declared.Stated.TheVariants.{Taken, Refused}
+use Rattle.store.specs.declared.refusal.Refusal.{Refusal}
+use Rattle.store.specs.Refusals.{number_of}
 
 -- ---- numbers for the bits of any map, from bit 0 on
 
@@ -21,6 +21,15 @@ agree [] ws = true
 agree (v ∷ vs) ws = eqb v (get_or ws 0 0) && agree vs (drop 1 ws)
 
 -- ---- a step
+
+-- the step of some numbers, or the number of a refusal
+pub data Stated : Type 0 where
+  Taken : Step → Stated
+  Refused : ℕ → Stated
+
+abbrev pub stated_of : Result Step Refusal → Stated
+stated_of (Ok x) = Taken x
+stated_of (Err e) = Refused (number_of e)
 
 -- the step of these numbers; 26 "a kind not in force" (document 02 §1), 27 "other fields than the kind's": one that it lacks is not 0
 unfoldable pub stated : List ℕ → Stated

@@ -77,15 +77,20 @@ pub fn famdrize_store_restart(store: &mut [u32], entry: u8) -> Answer
     given(store::restart(store, entry))
 }
 
-// The guard of an entry, and the first and the last entry of its interval.
+// The guard of an entry, and the first and the last entry of its interval. Written out, as nothing else makes such a struct.
 pub fn famdrize_store_find_interval(store: &[u32], entry: u8) -> GuardInterval
     ensures { interval_of result ≡ found_interval entry store.now }
 {
-    let found = store::find_interval(store, entry);
-    GuardInterval {
-        code: found.code,
-        guard: found.guard,
-        first: found.first,
-        last: found.last,
+    match store::find_interval(store, entry) {
+        Ok(found) => GuardInterval {
+            code: store::codes::DONE,
+            guard: found.guard,
+            first: found.first,
+            last: found.last,
+        },
+        Err(refusal) => GuardInterval {
+            code: u32::from(refusal),
+            ..GuardInterval::default()
+        },
     }
 }

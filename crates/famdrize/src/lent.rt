@@ -3,17 +3,12 @@ ghost use Rattle.std.specs.Prelude.{◌≡◌};
 ghost use Rattle.requests.specs.Lent.{waiting};
 ghost use Rattle.famdrize.specs.Calls.{reply_of};
 
-use crate::Answer;
+use crate::{Answer, given};
 use requests::LentRequest;
 
 // How many pending requests of the player there are in the list.
 pub fn famdrize_waiting(list: &[LentRequest], player: u8) -> Answer
     ensures { reply_of result ≡ waiting player list.now }
 {
-    let r = requests::lent::waiting(list, player);
-    Answer {
-        code: r.code,
-        a: r.a,
-        b: r.b,
-    }
+    given(requests::lent::waiting(list, player))
 }

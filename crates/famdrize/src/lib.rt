@@ -11,15 +11,18 @@ mod step_fields;
 pub mod tables;
 
 ghost use Rattle.std.specs.Prelude.{◌≡◌};
-ghost use Rattle.players.specs.Replies.{refusal};
-ghost use Rattle.famdrize.specs.Calls.{reply_of};
+ghost use Rattle.store.specs.Answers.{as_reply};
+ghost use Rattle.store.specs.Refusals.{number_of};
+ghost use Rattle.players.specs.Replies.{refusal as refused};
+ghost use Rattle.session.specs.Reports.{reported};
+ghost use Rattle.famdrize.specs.Calls.{reply_of, report_of};
 
-use players::Step;
-use store::Reply;
+use session::Report;
+use store::{Outcome, Refusal, Reply};
 
 // A reply: a code and two numbers.
 #[repr(C)]
-#[derive(Clone, Copy)]
+#[derive(Clone, Copy, Debug, PartialEq, Eq)]
 pub struct Answer {
     pub code: u32,
     pub a: u32,
@@ -28,7 +31,7 @@ pub struct Answer {
 
 // A guard, and the first and the last entry of its interval: code 0, or the code of a refusal and zeros.
 #[repr(C)]
-#[derive(Clone, Copy)]
+#[derive(Clone, Copy, Debug, Default, PartialEq, Eq)]
 pub struct GuardInterval {
     pub code: u32,
     pub guard: u32,
@@ -38,7 +41,7 @@ pub struct GuardInterval {
 
 // What stands at a place of a session: code 0, the record's length and the step by its fields, or the code of a refusal and zeros.
 #[repr(C)]
-#[derive(Clone, Copy)]
+#[derive(Clone, Copy, Debug, Default, PartialEq, Eq)]
 pub struct RecordFields {
     pub code: u32,
     pub length: u32,
@@ -52,34 +55,47 @@ pub struct RecordFields {
 
 // What a run reports: why it stopped, the number of records taken, and the byte place just after them.
 #[repr(C)]
-#[derive(Clone, Copy)]
+#[derive(Clone, Copy, Debug, PartialEq, Eq)]
 pub struct Ended {
     pub why: u32,
     pub records: u32,
     pub place: u32,
 }
 
-// The step of some fields, or the number of a refusal.
-#[derive(Clone, Copy)]
-enum Stated {
-    Taken(Step),
-    Refused(u32),
-}
+impl From<Report> for Ended {
+    ghost from_gives = { λ r e. report_of e ≡ reported r };
 
-// A reply, as it is handed out.
-fn given(r: Reply) -> Answer
-    ensures { reply_of result ≡ r }
-{
-    Answer {
-        code: r.code,
-        a: r.a,
-        b: r.b,
+    fn from(r: Report) -> Ended {
+        Ended {
+            why: r.why.into(),
+            records: r.records,
+            place: r.place,
+        }
     }
 }
 
-// A refusal.
-fn refuse(code: u32) -> Answer
-    ensures { reply_of result ≡ refusal code }
+impl From<Reply> for Answer {
+    ghost from_gives = { λ r a. reply_of a ≡ r };
+
+    fn from(r: Reply) -> Answer {
+        Answer {
+            code: r.code,
+            a: r.a,
+            b: r.b,
+        }
+    }
+}
+
+// What a call answers, as it is handed out.
+fn given<T: Outcome>(answer: Result<T, Refusal>) -> Answer
+    ensures { reply_of result ≡ as_reply T.replied answer }
 {
-    Answer { code, a: 0, b: 0 }
+    Answer::from(Reply::from(answer))
+}
+
+// A refusal.
+fn refuse(refusal: Refusal) -> Answer
+    ensures { reply_of result ≡ refused (number_of refusal) }
+{
+    Answer::from(store::refuse(refusal.into()))
 }

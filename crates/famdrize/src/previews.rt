@@ -4,7 +4,7 @@ ghost use Rattle.session.specs.Fields.{six};
 ghost use Rattle.steps.specs.Previews.{run_preview, previewed_run};
 ghost use Rattle.famdrize.specs.Calls.{reply_of, report_of, stepped_preview};
 
-use crate::{Answer, Ended, Stated, given, refuse, step_fields};
+use crate::{Answer, Ended, given, refuse, step_fields};
 
 // The reply that the step of this kind with these fields would get.
 pub fn famdrize_preview(
@@ -19,10 +19,9 @@ pub fn famdrize_preview(
 ) -> Answer
     ensures { reply_of result ≡ stepped_preview (six kind player entry high value serial) store.now players.now }
 {
-    let stated = step_fields::step_of(kind, player, entry, high, value, serial);
-    match stated {
-        Stated::Taken(next) => given(steps::previews::preview(store, players, next)),
-        Stated::Refused(code) => refuse(code),
+    match step_fields::step_of(kind, player, entry, high, value, serial) {
+        Ok(next) => given(steps::previews::preview(store, players, next)),
+        Err(refusal) => refuse(refusal),
     }
 }
 
@@ -37,9 +36,5 @@ pub fn famdrize_preview_run(
     ensures { run_preview (report_of result) replies.new ≡ previewed_run store.now players.now session.now budget replies.old }
 {
     let r = steps::previews::preview_run(store, players, session, budget, replies);
-    Ended {
-        why: r.why,
-        records: r.records,
-        place: r.place,
-    }
+    Ended::from(r)
 }

@@ -6,32 +6,20 @@ ghost use Rattle.session.specs.Written.{wrote, written};
 ghost use Rattle.famdrize.specs.Calls.{reply_of, eight, decoded, recorded};
 ghost use Rattle.session.specs.Fields.{six, numbers};
 
-use crate::{Answer, RecordFields, Stated, given, refuse, step_fields};
-use session::{Decoded, Fields};
+use crate::{Answer, RecordFields, given, refuse, step_fields};
+use session::Fields;
 
-fn wide8(x: u8) -> u32
-    ensures { result ≡ x }
-{
-    x as u32
-}
-
-fn wide16(x: u16) -> u32
-    ensures { result ≡ x }
-{
-    x as u32
-}
-
-// A record of this length with these fields.
+// A record of this length with these fields. No `From<Record>`: that a record is short is known where it was read, and not of every `Record`.
 fn record_with(length: u32, f: Fields) -> RecordFields
     ensures { eight result ≡ 0 ∷ length ∷ numbers f }
 {
     RecordFields {
         code: store::codes::DONE,
         length,
-        kind: wide8(f.kind),
-        player: wide8(f.player),
-        entry: wide8(f.entry),
-        high: wide16(f.high),
+        kind: f.kind.into(),
+        player: f.player.into(),
+        entry: f.entry.into(),
+        high: f.high.into(),
         value: f.value,
         serial: f.serial,
     }
@@ -41,20 +29,11 @@ fn record_with(length: u32, f: Fields) -> RecordFields
 pub fn famdrize_decode(part: &[u8]) -> RecordFields
     ensures { eight result ≡ decoded (decode part.now) }
 {
-    let found = session::records::decode(part);
-    match found {
-        Decoded::Record { step, length } => {
-            record_with(length as u32, session::kinds::fields_of(step))
-        }
-        Decoded::Refused(code) => RecordFields {
-            code,
-            length: 0,
-            kind: 0,
-            player: 0,
-            entry: 0,
-            high: 0,
-            value: 0,
-            serial: 0,
+    match session::records::decode(part) {
+        Ok(record) => record_with(record.length as u32, Fields::from(record.step)),
+        Err(refusal) => RecordFields {
+            code: refusal.into(),
+            ..RecordFields::default()
         },
     }
 }
@@ -71,10 +50,9 @@ pub fn famdrize_encode(
 ) -> Answer
     ensures { wrote (reply_of result) out.new ≡ recorded (six kind player entry high value serial) out.old }
 {
-    let stated = step_fields::step_of(kind, player, entry, high, value, serial);
-    match stated {
-        Stated::Taken(step) => given(session::records::encode(step, out)),
-        Stated::Refused(code) => refuse(code),
+    match step_fields::step_of(kind, player, entry, high, value, serial) {
+        Ok(step) => given(session::records::encode(step, out)),
+        Err(refusal) => refuse(refusal),
     }
 }
 

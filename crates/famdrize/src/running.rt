@@ -16,9 +16,5 @@ pub fn famdrize_run(
     ensures { finished (report_of result) replies.new store.new players.new ≡ ran store.old players.old session.now budget replies.old }
 {
     let r = steps::running::run(store, players, session, budget, replies);
-    Ended {
-        why: r.why,
-        records: r.records,
-        place: r.place,
-    }
+    Ended::from(r)
 }

@@ -1,39 +1,32 @@
 // A step by its fields.
 ghost use Rattle.std.specs.Prelude.{◌≡◌};
 ghost use Rattle.session.specs.Fields.{six, numbers};
-ghost use Rattle.famdrize.specs.Fields.{agree, stated};
+ghost use Rattle.famdrize.specs.Fields.{agree, stated, stated_of};
 
-use crate::Stated;
-use session::kinds::fields_of;
-use session::{Decoded, Fields, codes, records};
+use players::Step;
+use session::{Fields, records};
+use store::Refusal;
 
 // Whether all fields are the same.
+#[tactic(auto, unfolding(crate::specs::Fields::agree))]
 fn same(f: Fields, g: Fields) -> bool
     ensures { result ≡ agree (numbers f) (numbers g) }
 {
-    if f.kind != g.kind {
-        return false;
-    }
-    if f.player != g.player {
-        return false;
-    }
-    if f.entry != g.entry {
-        return false;
-    }
-    if f.high != g.high {
-        return false;
-    }
-    if f.value != g.value {
-        return false;
-    }
-    f.serial == g.serial
+    f == g
 }
 
 // The step of the kind with these fields. Those that the kind lacks are 0 exactly where the step has the same fields.
-pub(crate) fn step_of(kind: u8, player: u8, entry: u8, high: u16, value: u32, serial: u32) -> Stated
-    ensures { result ≡ stated (six kind player entry high value serial) }
+pub(crate) fn step_of(
+    kind: u8,
+    player: u8,
+    entry: u8,
+    high: u16,
+    value: u32,
+    serial: u32,
+) -> Result<Step, Refusal>
+    ensures { stated_of result ≡ stated (six kind player entry high value serial) }
 {
-    let f = Fields {
+    let fields = Fields {
         kind,
         player,
         entry,
@@ -41,15 +34,10 @@ pub(crate) fn step_of(kind: u8, player: u8, entry: u8, high: u16, value: u32, se
         value,
         serial,
     };
-    let read = records::of_fields(f);
-    match read {
-        Decoded::Record { step, length } => {
-            if same(f, fields_of(step)) {
-                Stated::Taken(step)
-            } else {
-                Stated::Refused(codes::WRONG_FIELDS)
-            }
-        }
-        Decoded::Refused(code) => Stated::Refused(code),
+    let step = records::of_fields(fields)?.step;
+    if same(fields, Fields::from(step)) {
+        Ok(step)
+    } else {
+        Err(Refusal::WrongFields)
     }
 }

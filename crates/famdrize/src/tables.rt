@@ -4,7 +4,7 @@ ghost use Rattle.players.specs.Calls.{left, checked, made_fresh, shared};
 ghost use Rattle.famdrize.specs.Calls.{reply_of, stepped};
 ghost use Rattle.session.specs.Fields.{six};
 
-use crate::{Answer, Stated, given, refuse, step_fields};
+use crate::{Answer, given, refuse, step_fields};
 
 // Makes both tables fresh.
 pub fn famdrize_fresh(store: &mut [u32], players: &mut [u32]) -> Answer
@@ -33,10 +33,9 @@ pub fn famdrize_step(
 ) -> Answer
     ensures { left (reply_of result) store.new players.new ≡ stepped (six kind player entry high value serial) store.old players.old }
 {
-    let stated = step_fields::step_of(kind, player, entry, high, value, serial);
-    match stated {
-        Stated::Taken(next) => given(steps::step(store, players, next)),
-        Stated::Refused(code) => refuse(code),
+    match step_fields::step_of(kind, player, entry, high, value, serial) {
+        Ok(next) => given(steps::step(store, players, next)),
+        Err(refusal) => refuse(refusal),
     }
 }
 

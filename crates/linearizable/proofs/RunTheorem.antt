@@ -12,8 +12,7 @@ use Rattle.players.specs.Rules.{State, replies, fresh}
 use Rattle.players.specs.Played.{AllFit, state_after, tables_of}
 use Rattle.players.proofs.Tables.{state_table, ok_fresh}
 use Rattle.players.proofs.PlayedLaws.{ok_after}
-use Rattle.session.specs.declared.Decoded.{Decoded}
-use Rattle.session.specs.declared.Decoded.TheVariants.{Record, Refused}
+use Rattle.session.specs.Decoded.{Decoded, Record, Refused}
 use Rattle.session.specs.Records.{decode, Bytes}
 use Rattle.session.specs.Mark.{mark, marked}
 use Rattle.session.specs.Runs.{on_record, run, steps_from, steps, allowed, longest, whole_places}

@@ -3,7 +3,7 @@
 use Rattle.std.specs.Prelude.{◌≡◌, Bool, true, false, cond, List, [], ◌∷◌, ℕ, ◌≤◌}
 use Rattle.store.specs.declared.Reply.{Reply}
 use Rattle.players.specs.Played.{Tables, taken}
-use Rattle.session.specs.declared.Report.{Report}
+use Rattle.session.specs.Reports.{Report}
 use Rattle.session.specs.Fields.{six}
 use Rattle.session.specs.Runs.{preview_records}
 use Rattle.steps.specs.RunCalls.{ran}

@@ -11,7 +11,7 @@ use Rattle.store.specs.declared.Reply.{Reply}
 use Rattle.players.specs.Rules.{fresh}
 use Rattle.players.specs.Table.{table_of}
 use Rattle.players.specs.Calls.{Done, left, whole, made_fresh}
-use Rattle.session.specs.declared.Report.{Report}
+use Rattle.session.specs.Reports.{Report}
 use Rattle.session.specs.Runs.{run, reply_words, filled}
 use Rattle.session.specs.Listing.{header, reply_lines, end_line, budget, places, printed}
 use Rattle.steps.specs.RunCalls.{Finished, finished, encoded, ran, replies_from}

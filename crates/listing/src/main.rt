@@ -3,6 +3,7 @@
 
 ghost use Rattle.std.specs.Prelude.{◌≡◌, ◌++◌, ◌+◌, ◌*◌, ◌≤◌, length, take};
 ghost use Rattle.session.specs.Listing.{header, reply_line, reply_lines, end_line, printed};
+ghost use Rattle.session.specs.Reports.{reported};
 ghost use Rattle.session.specs.Text.{Puts};
 ghost use Rattle.steps.specs.RunCalls.{reply_at, replies_from};
 
@@ -21,42 +22,39 @@ const ROOM: usize = 240304;
 // One byte more than the longest session: what is longer is refused, whatever follows.
 const MOST_READ: usize = sizes::LONGEST + 1;
 
-// Puts the line of the reply that stands at a place of the list, and gives the place after it.
-fn reply_line(replies: &[u32], i: usize, out: &mut [u8], at: usize) -> usize
-    requires { (3 * i + 3 ≤ length replies.now) × (i + 1 ≤ 4294967295) × (at + 44 ≤ length out.old) }
-    ensures { Puts (reply_line (i + 1) (reply_at replies.now i)) 44 at out.old out.new result }
+// Puts the line of a step: its ordinal, and the reply that these words are.
+fn reply_line(ordinal: u32, words: &[u32; sizes::REPLY], out: &mut [u8], at: usize) -> usize
+    requires { at + 44 ≤ length out.old }
+    ensures { Puts (reply_line ordinal (reply_at words.now 0)) 44 at out.old out.new result }
 {
-    let place = sizes::REPLY * i;
-    let reply = Reply {
-        code: replies[place],
-        a: replies[place + 1],
-        b: replies[place + 2],
-    };
-    let wrote = session::listing::reply_line((i + 1) as u32, reply, &mut out[at..]);
-    at + wrote.a as usize
+    let [code, a, b] = *words;
+    let reply = Reply { code, a, b };
+    at + session::listing::reply_line(ordinal, reply, &mut out[at..]).unwrap_or(0) as usize
 }
 
 // Puts the last line.
 fn end_line(report: Report, out: &mut [u8], at: usize) -> usize
     requires { at + 37 ≤ length out.old }
-    ensures { Puts (end_line report) 37 at out.old out.new result }
+    ensures { Puts (end_line (reported report)) 37 at out.old out.new result }
 {
-    let wrote = session::listing::end_line(report, &mut out[at..]);
-    at + wrote.a as usize
+    let put = session::listing::end_line(
+        report.why.into(),
+        report.records,
+        report.place,
+        &mut out[at..],
+    );
+    at + put.unwrap_or(0) as usize
 }
 
 // Puts the lines of a run: the header, the replies and the last line.
 fn lines(report: Report, replies: &[u32], out: &mut [u8]) -> usize
     requires { (3 * report.records ≤ length replies.now) × (44 * report.records + 51 ≤ length out.old) }
-    ensures { (result ≤ length out.new) × (take result out.new ≡ header ++ (reply_lines 1 (replies_from replies.now 0 report.records) ++ end_line report)) }
+    ensures { (result ≤ length out.new) × (take result out.new ≡ header ++ (reply_lines 1 (replies_from replies.now 0 report.records) ++ end_line (reported report))) }
 {
-    let first = session::listing::header(out);
-    let mut at = first.a as usize;
-    let records = report.records as usize;
-    let mut i: usize = 0;
-    while i < records {
-        at = reply_line(replies, i, out, at);
-        i += 1;
+    let mut at = session::listing::header(out).unwrap_or(0) as usize;
+    let (places, _) = replies.as_chunks::<{ sizes::REPLY }>();
+    for (i, words) in places[..report.records as usize].iter().enumerate() {
+        at = reply_line(i as u32 + 1, words, out, at);
     }
     end_line(report, out, at)
 }
@@ -69,7 +67,7 @@ fn list(session: &[u8], out: &mut [u8]) -> usize
     let mut store = [0u32; store::layout::WORDS];
     let mut players = [0u32; players::layout::WORDS];
     let mut replies = [0u32; PLACES * sizes::REPLY];
-    players::fresh(&mut store, &mut players);
+    let _ = players::fresh(&mut store, &mut players);
     let report = steps::running::run(&mut store, &mut players, session, BUDGET, &mut replies);
     lines(report, &replies, out)
 }

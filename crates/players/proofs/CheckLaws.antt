@@ -10,17 +10,21 @@ use lib.Dec.{leb, eqb}
 use lib.Bits.{bit_or}
 use lib.ListN.{length, get_or, take, drop, drop_of_length-le, length-drop}
 use lib.Seq.{get_or-take, get_or-drop, length-take-le}
-use borrow.Author.Tests.{eq-eqb, ne_eqb, le-leb, lt-leb, lt-ltb, eqb-true}
+use borrow.Author.Tests.{eq-eqb, le-leb, lt-leb, lt-ltb, eqb-true}
 use Rattle.store.specs.Model.{fresh as fresh_store}
-use Rattle.store.specs.Table.{at_most, above, table_of as store_table, valid as valid_store}
+use Rattle.store.specs.Table.{above, at_most, table_of as store_table, valid as valid_store}
 use Rattle.store.specs.Calls.{reply, checked as checked_store, done as stored_as, Done as StoreDone, made_fresh as store_made}
+use Rattle.std.specs.Prelude.{Result as Outcome, Ok, Err}
+use Rattle.store.specs.Answers.{nothing, as_reply}
+use Rattle.store.specs.Refusals.{number_of}
 use Rattle.store.specs.declared.Reply.{Reply}
+use Rattle.store.specs.declared.refusal.Refusal.{Refusal}
+use Rattle.store.proofs.Refusals.{number_of-positive}
 use Rattle.store.proofs.Bits.{none_gathered, above_none}
 use Rattle.store.proofs.Turns.{drop_next}
 use Rattle.requests.specs.Region.{valid as valid_requests}
 use Rattle.counters.specs.Region.{valid as valid_counters}
 use Rattle.requests.proofs.Basics.{decide, both_left, both_right, cond_elim}
-use Rattle.players.specs.Replies.{refusal}
 use Rattle.players.specs.Rules.{fresh}
 use Rattle.players.specs.Calls.{left, whole, checked, made_fresh}
 use Rattle.players.specs.Regions.{region}
@@ -71,11 +75,11 @@ module _ (t : List ℕ) (l : length t ≡ players_words) (i : ℕ) where
       cached_at_is = rw (cell_is guards_at, cell_is versions_at, cell_is values_at)
 
       -- a are the bits that tell of the cells before, and b those that tell of this one
-      pub values_turn : (a b : ℕ) → eqb b 0 ≡ cached_at t p e → (eqb (bit_or a b) 0 && rest_holds t (i + 1)) ≡ (eqb a 0 && rest_holds t i)
+      pub values_turn : (a b : ℕ) → eqb b 0 ≡ cached_at t p e → (eqb a 0 && rest_holds t i) ≡ (eqb (bit_or a b) 0 && rest_holds t (i + 1))
       unfolding cached_all
       values_turn a b f =
           rw (none_gathered a b, f, cached_at_is, column_next guards_at (omega arith), column_next versions_at (omega arith), column_next values_at (omega arith))
-          (and_assoc (eqb a 0) _ (rest_holds t (i + 1)))
+          (sym (and_assoc (eqb a 0) _ (rest_holds t (i + 1))))
 
   pub values_end : (b : Bool) → cell_count ≤ i → (b && rest_holds t i) ≡ b
   unfolding cached_all
@@ -129,13 +133,6 @@ module _ (t : List ℕ) where
 
 -- ---- both tables
 
-module _ (st t : List ℕ) where
-  pub store_short : (length st ≡ 1280 → ⊥) → false ≡ whole st t
-  store_short h = rw (ne_eqb (length st) 1280 h)
-
-  pub players_length : length st ≡ 1280 → eqb (length t) players_words ≡ whole st t
-  players_length h = rw (eq-eqb (length st) 1280 h)
-
 module _ (st t : List ℕ) (w : whole st t ≡ true) where
   pub store_long : length st ≡ 1280
   store_long = eqb-true (length st) 1280 (both_left (eqb (length st) 1280) (eqb (length t) players_words) w)
@@ -143,41 +140,67 @@ module _ (st t : List ℕ) (w : whole st t ≡ true) where
   pub players_long : length t ≡ players_words
   players_long = eqb-true (length t) players_words (both_right (eqb (length st) 1280) (eqb (length t) players_words) w)
 
+abbrev store_test : Bool → Bool → Reply
+store_test a b = cond a (cond b (reply 0 0 0) (reply 22 0 0)) (reply 21 0 0)
+
+not_stored : (a b c : Bool) → ((store_test a b).code ≡ 0 → ⊥) → store_test a b ≡ store_test a (b && c)
+not_stored true true c h = absurd (h refl)
+not_stored true false c h = refl
+not_stored false b c h = refl
+
+stored : (a b c : Bool) → (store_test a b).code ≡ 0 → cond c (reply 0 0 0) (reply 22 0 0) ≡ store_test a (b && c)
+stored true true c h = refl
+stored true false c h = absurd (omega (arith, h))
+stored false b c h = absurd (omega (arith, h))
+
+module _ (st t : List ℕ) (l : length t ≡ players_words) (r : Outcome Unit Refusal) where
+  checked_is : checked st t ≡ store_test (eqb (length st) 1280) (valid_store (get_or t 0 0) st && valid_players t)
+  unfolding valid
+  checked_is = rw (eq-eqb (length t) players_words l, and-true (eqb (length st) 1280))
+
   -- the store's test, and then the players'
-  module _ (r : Reply) (e : r ≡ checked_store (get_or t 0 0) st) where
-    tested : r.code ≡ cond (valid_store (get_or t 0 0) st) 0 22
-    tested =
-        ap (λ (x : Reply). x.code) e
-        ∙ rw (eq-eqb (length st) 1280 store_long) (cond_elim (λ (x : Reply). x.code ≡ cond (valid_store (get_or t 0 0) st) 0 22) (valid_store (get_or t 0 0) st) (reply 0 0 0) (reply 22 0 0) (λ b. rw b) (λ b. rw b))
+  module _ (e : as_reply nothing r ≡ checked_store (get_or t 0 0) st) where
+    pub check_store : (x : Refusal) → r ≡ Err x → reply (number_of x) 0 0 ≡ checked st t
+    check_store x k =
+        ap (λ (q : Outcome Unit Refusal). as_reply nothing q) (sym k)
+        ∙ e
+        ∙ not_stored (eqb (length st) 1280) (valid_store (get_or t 0 0) st) (valid_players t)
+        (λ z. number_of-positive x (sym (ap (λ (q : Outcome Unit Refusal). (as_reply nothing q).code) k) ∙ ap (λ (y : Reply). y.code) e ∙ z))
+        ∙ sym checked_is
 
-    stored_not : (r.code ≡ 0 → ⊥) → valid_store (get_or t 0 0) st ≡ false
-    stored_not z = ⊎_elim (λ b. absurd (z (tested ∙ ap (λ (x : Bool). cond x 0 22) b))) (λ b. b) (decide (valid_store (get_or t 0 0) st))
-
-    pub check_store : (r.code ≡ 0 → ⊥) → refusal 22 ≡ checked st t
-    unfolding valid
-    check_store z = rw (w, stored_not z)
-
-    module _ (z : r.code ≡ 0) where
-      stored : valid_store (get_or t 0 0) st ≡ true
-      stored = ⊎_elim (λ b. b) (λ b. absurd (omega (arith, sym z ∙ tested ∙ ap (λ (x : Bool). cond x 0 22) b))) (decide (valid_store (get_or t 0 0) st))
-
-      pub check_players : valid_players t ≡ false → refusal 22 ≡ checked st t
-      unfolding valid
-      check_players v = rw (w, stored, v)
-
-      pub check_good : valid_players t ≡ true → refusal 0 ≡ checked st t
-      unfolding valid
-      check_good v = rw (w, stored, v)
+    pub check_players : (u : Unit) → r ≡ Ok u → (b : Bool) → b ≡ valid_players t → cond b (reply 0 0 0) (reply 22 0 0) ≡ checked st t
+    check_players u k b f =
+        ap (λ (c : Bool). cond c (reply 0 0 0) (reply 22 0 0)) f
+        ∙ stored (eqb (length st) 1280) (valid_store (get_or t 0 0) st) (valid_players t)
+        (sym (ap (λ (y : Reply). y.code) e) ∙ ap (λ (q : Outcome Unit Refusal). (as_reply nothing q).code) k)
+        ∙ sym checked_is
 
   -- the store made fresh, and the players
-  pub fresh_both : (r : Reply) (st' t' : List ℕ) → stored_as r st' ≡ store_made st → t' ≡ table_of fresh → left r st' t' ≡ made_fresh st t
-  fresh_both r st' t' e f =
-      let x : stored_as r st' ≡ stored_as (reply 0 0 0) (store_table fresh_store) = e ∙ rw (eq-eqb (length st) 1280 store_long) in
-      rw (w, ap (λ (d : StoreDone). d.reply) x, ap (λ (d : StoreDone). d.table) x, f)
+  module _ (st' : List ℕ) (e : stored_as (as_reply nothing r) st' ≡ store_made st) where
+    pub fresh_refused : (x : Refusal) → r ≡ Err x → left (reply (number_of x) 0 0) st' t ≡ made_fresh st t
+    fresh_refused x k =
+        let c : (as_reply nothing r).code ≡ number_of x = ap (λ (q : Outcome Unit Refusal). (as_reply nothing q).code) k in
+        let y : reply (number_of x) 0 0 ≡ as_reply nothing r = ap (λ (q : Outcome Unit Refusal). as_reply nothing q) (sym k) in
+        ⊎_elim
+        (λ b.
+        let d : stored_as (as_reply nothing r) st' ≡ stored_as (reply 0 0 0) (store_table fresh_store) = e ∙ rw b in
+        absurd (number_of-positive x (sym c ∙ ap (λ (d : StoreDone). d.reply.code) d)))
+        (λ b.
+        let d : stored_as (as_reply nothing r) st' ≡ stored_as (reply 21 0 0) st = e ∙ rw b in
+        let w : whole st t ≡ false = ap (λ (z : Bool). z && eqb (length t) players_words) b in
+        rw (y ∙ ap (λ (d : StoreDone). d.reply) d, ap (λ (d : StoreDone). d.table) d, w))
+        (decide (eqb (length st) 1280))
 
-module _ (st t : List ℕ) (w : whole st t ≡ false) (r : Reply) (e : r ≡ refusal 21) where
-  pub check_short : r ≡ checked st t
-  check_short = e ∙ rw w
-
-  pub fresh_short : left r st t ≡ made_fresh st t
-  fresh_short = rw (e, w)
+    pub fresh_both : (u : Unit) → r ≡ Ok u → (t' : List ℕ) → t' ≡ table_of fresh → left (reply 0 0 0) st' t' ≡ made_fresh st t
+    fresh_both u k t' f =
+        let c : (as_reply nothing r).code ≡ 0 = ap (λ (q : Outcome Unit Refusal). (as_reply nothing q).code) k in
+        ⊎_elim
+        (λ b.
+        let d : stored_as (as_reply nothing r) st' ≡ stored_as (reply 0 0 0) (store_table fresh_store) = e ∙ rw b in
+        let w : whole st t ≡ true = ap (λ (z : Bool). z && eqb (length t) players_words) b ∙ eq-eqb (length t) players_words l in
+        rw (ap (λ (d : StoreDone). d.table) d, f, w))
+        (λ b.
+        let d : stored_as (as_reply nothing r) st' ≡ stored_as (reply 21 0 0) st = e ∙ rw b in
+        let z : 0 ≡ 21 = sym c ∙ ap (λ (d : StoreDone). d.reply.code) d in
+        absurd (omega (arith, z)))
+        (decide (eqb (length st) 1280))

@@ -1,45 +1,26 @@
 -- The share of reads from memory: what its tests come to.
 -- Assumes nothing.
-use mathlib.Core.Path.{◌≡◌, refl, sym, ap, ◌∙◌}
+use mathlib.Core.Path.{◌≡◌, sym, ap, ◌∙◌}
 use mathlib.Core.Logic.{⊎_elim}
-use mathlib.Core.Bool.{Bool, true, false, cond}
 use mathlib.Core.List.{List}
-use Prim.Native.Nat.{ℕ, ◌≤◌}
-use native.Mathlib.Omega.{arith}
+use Prim.Native.Nat.{ℕ}
 use lib.Dec.{T, leb}
-use lib.ListN.{length, take, drop}
+use lib.ListN.{take, drop}
 use borrow.Author.Tests.{leb-true, leb-false}
 use Rattle.store.specs.declared.Reply.{Reply}
 use Rattle.requests.proofs.Basics.{decide}
 use Rattle.counters.specs.Region.{region_of as counter_region, shared as region_shared}
 use Rattle.counters.proofs.RegionLaws.{shared_region, shared_out}
-use Rattle.players.specs.Replies.{refusal, done}
 use Rattle.players.specs.Regions.{region}
-use Rattle.players.specs.Table.{players_words, state_of, valid}
-use Rattle.players.specs.Calls.{whole, checked, shared}
+use Rattle.players.specs.Table.{state_of, valid}
+use Rattle.players.specs.Calls.{checked, shared}
 use Rattle.players.proofs.Tables.{ok_tables, players_table_back, counters_of}
 use Rattle.players.proofs.CheckLaws.{store_long, players_long}
 use Rattle.players.proofs.CallLaws.{passed}
 
-not_done : (a b : Bool) (x : Reply) → ((cond a (cond b done (refusal 22)) (refusal 21)).code ≡ 0 → ⊥) → cond a (cond b done (refusal 22)) (refusal 21) ≡ cond a (cond b x (refusal 22)) (refusal 21)
-not_done true true x h = absurd (h refl)
-not_done true false x h = refl
-not_done false b x h = refl
-
--- a whole table has the words of the read counters
-pub has_counters : {n : ℕ} → n ≡ players_words → 9489 ≤ n
-has_counters h = omega arith
-
 module _ (st t : List ℕ) (r : Reply) (e : r ≡ checked st t) (p : ℕ) where
-  -- the tables are refused
-  pub share_refused : (r.code ≡ 0 → ⊥) → r ≡ shared p st t
-  share_refused h = e ∙ not_done (whole st t) (valid st t) _ (λ x. h (ap (λ (y : Reply). y.code) e ∙ x))
-
-  -- they are not, and their words of the counters give the share
+  -- the tables are not refused, and their words of the counters give the share
   module _ (z : r.code ≡ 0) where
-    pub counted_length : 9489 ≤ length t
-    counted_length = has_counters (players_long st t (passed st t r e z).0)
-
     pub share_given : (x : Reply) → x ≡ region_shared p (take 16 (drop 9473 t)) → x ≡ shared p st t
     unfolding region
     share_given x ex =

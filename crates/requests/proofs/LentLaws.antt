@@ -2,8 +2,11 @@
 -- Assumes nothing.
 use mathlib.Core.Path.{◌≡◌, refl, sym, ap, ◌∙◌}
 use mathlib.Core.Logic.{⊎_elim}
-use mathlib.Core.Bool.{Bool, true, false, ◌&&◌, not-not}
+use mathlib.Core.Bool.{Bool, true, false, cond, ◌&&◌}
 use mathlib.Core.List.{List, [], ◌∷◌, ◌++◌, map}
+use Rattle.std.specs.List.{count_by}
+use Rattle.std.proofs.lemmas.List.Recursion.{is_count_by}
+use native.Mathlib.Nat.{zero-add}
 use Prim.Native.Nat.{ℕ, zero, suc, ◌+◌, ◌≤◌, ◌<◌}
 use native.Mathlib.Omega.{arith}
 use lib.Dec.{eqb}
@@ -25,14 +28,6 @@ module _ (r : LentRequest) (p : ℕ) where
   unfolding counts
   counts_unused h = rw (eq-eqb r.serial 0 h)
 
-  pub counts_other : (r.serial ≡ 0 → ⊥) → (r.player ≡ p → ⊥) → false ≡ counts p r
-  unfolding counts
-  counts_other h k = rw (ne_eqb r.serial 0 h, ne_eqb r.player p k)
-
-  pub counts-mine : (r.serial ≡ 0 → ⊥) → r.player ≡ p → eqb r.abandoned 0 ≡ counts p r
-  unfolding counts
-  counts-mine h k = rw (ne_eqb r.serial 0 h, eq-eqb r.player p k) (sym (not-not (eqb r.abandoned 0)))
-
   module _ (n : ℕ) where
     pub passed_over : counts p r ≡ false → n ≡ one_more p n r
     unfolding one_more
@@ -41,10 +36,6 @@ module _ (r : LentRequest) (p : ℕ) where
     pub one_added : counts p r ≡ true → n < 4294967295 → n + 1 ≡ one_more p n r
     unfolding one_more
     one_added h k = rw (h, lt-ltb n 4294967295 k)
-
-    pub at_largest : counts p r ≡ true → 4294967295 ≤ n → n ≡ one_more p n r
-    unfolding one_more
-    at_largest h k = rw (h, le-ltb n 4294967295 k)
 
 -- ---- the reply
 
@@ -62,6 +53,39 @@ module _ (m p n : ℕ) where
   count_given h k = rw (eq-eqb m 64 h, le-ltb 7 p k)
 
 -- ---- what is counted
+
+-- how many places count
+many : ℕ → List LentRequest → ℕ
+many p [] = 0
+many p (r ∷ rs) = cond (counts p r) (1 + many p rs) (many p rs)
+
+counted_many : (p n : ℕ) (rs : List LentRequest) → n + length rs ≤ 4294967295 → counted p n rs ≡ n + many p rs
+unfolding counted many
+counted_many p n [] h = omega arith
+counted_many p n (r ∷ rs) h =
+    ⊎_elim
+    (λ t.
+    let e : many p (r ∷ rs) ≡ 1 + many p rs = rw t in
+    ap (λ (m : ℕ). counted p m rs) (sym (one_added r p n t (omega arith))) ∙ counted_many p (n + 1) rs (omega arith) ∙ omega (arith, e))
+    (λ t.
+    let e : many p (r ∷ rs) ≡ many p rs = rw t in
+    ap (λ (m : ℕ). counted p m rs) (sym (passed_over r p n t)) ∙ counted_many p n rs (omega arith) ∙ omega (arith, e))
+    (decide (counts p r))
+
+-- the reply for a list of 64 places, by the number of those that count
+pub waiting_count : (p : ℕ) (rs : List LentRequest) → length rs ≡ 64 → p ≤ 7 → reply 0 (count_by (counts p) rs) 0 ≡ waiting p rs
+unfolding waiting many
+waiting_count p rs l h =
+    let e : counted p 0 rs ≡ count_by (counts p) rs = counted_many p 0 rs (omega arith) ∙ zero-add (many p rs) ∙ is_count_by (many p) (counts p) refl (λ x xs. refl) rs in
+    ap (λ (n : ℕ). reply 0 n 0) (sym e) ∙ count_given (length rs) p (counted p 0 rs) l h
+
+pub waiting_places : (p : ℕ) (rs : List LentRequest) → (length rs ≡ 64 → ⊥) → reply 21 0 0 ≡ waiting p rs
+unfolding waiting
+waiting_places p rs h = wrong_places (length rs) p (counted p 0 rs) h
+
+pub waiting_player : (p : ℕ) (rs : List LentRequest) → length rs ≡ 64 → 8 ≤ p → reply 28 0 0 ≡ waiting p rs
+unfolding waiting
+waiting_player p rs h k = no_player (length rs) p (counted p 0 rs) h (omega arith)
 
 -- each of these places is used
 pub data Used : List LentRequest → Type 0 where

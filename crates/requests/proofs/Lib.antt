@@ -4,14 +4,13 @@ pub mod Rising
 pub mod ShareLaws
 pub mod CountLaws
 pub mod RequestRules
-pub mod RuleLaws
-pub mod TestLaws
 pub mod WordLaws
 pub mod Placed
 pub mod ScanLaws
-pub mod PlaceLaws
 pub mod CrossLaws
 pub mod RestartLaws
 pub mod CallLaws
 pub mod RegionLaws
 pub mod LentLaws
+pub mod Runs
+pub mod FirstPlace

@@ -12,10 +12,11 @@ use lib.Seq.{take-append-add, drop-append-add, drop_at}
 use borrow.Author.Tests.{eq-eqb, ne_eqb, eqb-true, lt-ltb}
 use Rattle.requests.specs.declared.Request.{Request}
 use Rattle.requests.specs.declared.Fit.{Fit}
-use Rattle.requests.specs.declared.Found.TheVariants.{At, Nowhere}
+use Rattle.requests.specs.declared.Found.{Found}
+use Rattle.std.specs.Prelude.{Option, Some, None}
 use Rattle.requests.specs.Model.{places, serial_is, by, fits, named, writing, using_entry, any, keep, find, drop_request, change_request, mark_overlapped, mark_abandoned, mark_delivered}
 use Rattle.requests.specs.Region.{words_of, placed, region_of}
-use Rattle.requests.specs.Calls.{found_from, found, scan_of, scanned, over, with_request, with_abandoned, with_delivered, closed, without, overlapped_from, crossing, crossed, remains, give_up, remaining, restarted}
+use Rattle.requests.specs.Calls.{At, Nowhere, found_from, found, scan_of, scanned, over, with_request, with_abandoned, with_delivered, closed, without, overlapped_from, crossing, crossed, remains, give_up, remaining, restarted}
 use Rattle.requests.proofs.Rising.{Each, In, here, there, fewer_kept}
 use Rattle.requests.proofs.RequestRules.{request_fits}
 use Rattle.requests.proofs.WordLaws.{over_skip, over_front, drop_zeros, set_from, sets_from}
@@ -62,11 +63,20 @@ record Lies (f : Fit) (n i k : ℕ) (r : Request) (rs : List Request) : Type 1 w
   stands : Stands r place rs
   found_first : {A : Type 0} (x : A) (go : Request → A) → find (named f n) rs x go ≡ go r
 
+place_or : ℕ → Option Found → ℕ
+place_or k None = k
+place_or k (Some a) = a.place
+
+request_or : Request → Option Found → Request
+request_or r None = r
+request_or r (Some a) = a.request
+
 lies_cond : (f : Fit) (n i k : ℕ) (r q : Request) (rs : List Request) (s b : Bool) → serial_is n q ≡ s → fits f q ≡ b → At k r ≡ cond s (cond b (At i q) Nowhere) (found_from f n (i + 1) rs)
     → (At k r ≡ found_from f n (i + 1) rs → Lies f n (i + 1) k r rs) → Lies f n i k r (q ∷ rs)
+unfolding place_or request_or
 lies_cond f n i k r q rs true true es eb e g =
-    let z : k ≡ i = cc in
-    let y : r ≡ q = cc in
+    let z : k ≡ i = ap (λ (x : Option Found). place_or k x) e in
+    let y : r ≡ q = ap (λ (x : Option Found). request_or r x) e in
     rw y (record { place = 0; counted = z ∙ sym (add-zero i); stands = first; found_first = λ x go. rw (es, eb) })
 lies_cond f n i k r q rs true false es eb e g = let z : ◌≡◌ {A = ℕ} 0 1 = cc in absurd (omega arith)
 lies_cond f n i k r q rs false b es eb e g =

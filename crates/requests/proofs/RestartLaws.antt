@@ -15,7 +15,7 @@ use Rattle.requests.specs.Model.{by}
 use Rattle.requests.specs.Region.{request_of, request_at, requests_from, requests_of}
 use Rattle.requests.specs.Calls.{over, remains, given_up_words, Carried, carried, carry, remaining, restarted}
 use Rattle.requests.proofs.Basics.{cond_elim}
-use Rattle.requests.proofs.WordLaws.{length-over, take-over, drop-over, set_in_over}
+use Rattle.requests.proofs.WordLaws.{length-over, take-over, drop-over}
 use Rattle.requests.proofs.ScanLaws.{from, from_start, from_used, first_word, next_place, place_used, not_used}
 
 module _ (p j k : ℕ) (w : List ℕ) (r : Request) (er : r ≡ request_at w k) where
@@ -26,15 +26,13 @@ module _ (p j k : ℕ) (w : List ℕ) (r : Request) (er : r ≡ request_at w k) 
   abbrev place : List ℕ
   place = take 12 (drop (k * 12) w)
 
-  given_up : (b : Bool) → 9 < length place → cond b (set (over w (j * 12) place) (j * 12 + 9) 1) (over w (j * 12) place) ≡ over w (j * 12) (take 12 (cond b (set (drop (k * 12) w) 9 1) (drop (k * 12) w)))
-  given_up true h = set_in_over w (j * 12) place 9 1 h ∙ ap (over w (j * 12)) (sym (take-set-lt 12 (drop (k * 12) w) 9 1 (omega arith)))
-  given_up false h = refl
+  given_up : (b : Bool) → cond b (set place 9 1) place ≡ take 12 (cond b (set (drop (k * 12) w) 9 1) (drop (k * 12) w))
+  given_up true = sym (take-set-lt 12 (drop (k * 12) w) 9 1 (omega arith))
+  given_up false = refl
 
-  pub carry_done : k < 64 → length w ≡ 768 → remains p r ≡ true → (w₁ w₂ : List ℕ) → w₁ ≡ over w (j * 12) place → w₂ ≡ cond (by p r) (set w₁ (j * 12 + 9) 1) w₁ → carried (j + 1) w₂ ≡ carry p j k w
+  pub carry_done : remains p r ≡ true → (c : List ℕ) → c ≡ cond (by p r) (set place 9 1) place → carried (j + 1) (over w (j * 12) c) ≡ carry p j k w
   unfolding carry
-  carry_done h l e w₁ w₂ e₁ e₂ =
-      let n : length place ≡ 12 = length-take-le 12 (drop (k * 12) w) (rw length-drop (omega arith)) in
-      rw (← er, e, e₂, e₁, given_up (by p r) (omega arith))
+  carry_done e c ec = rw (← er, e, ec, given_up (by p r))
 
 -- the places below k have been passed, and of their requests those that remain stand in the first j places
 pub record Packed (p j k : ℕ) (w₀ w : List ℕ) : Type 0 where
@@ -144,7 +142,3 @@ module _ (p : ℕ) (w : List ℕ) (k : ℕ) where
 
   pub rest_none : place_used w k ≡ false → remaining p (64 - k) (drop (k * 12) w) ≡ []
   rest_none e = not_used w k e no_rest unused_rest
-
-pub restart_none : (p : ℕ) (w : List ℕ) → (length w ≡ 768 → ⊥) → w ≡ restarted p w
-unfolding restarted
-restart_none p w h = rw (ne_eqb (length w) 768 h)

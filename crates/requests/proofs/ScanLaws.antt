@@ -2,10 +2,11 @@
 -- Assumes nothing.
 use mathlib.Core.Path.{◌≡◌, refl, sym, ap, ◌∙◌}
 use mathlib.Core.Logic.{⊎_elim}
-use mathlib.Core.Bool.{Bool, true, false, cond, not, ◌&&◌, ◌||◌, or-false, or_assoc}
+use mathlib.Core.Bool.{Bool, true, false, cond, not, ◌&&◌}
+use Rattle.std.specs.Prelude.{Option}
 use mathlib.Core.List.{List, [], ◌∷◌}
-use Prim.Native.Nat.{ℕ, suc, ◌+◌, ◌-◌, ◌*◌, ◌^◌, ◌≤◌, ◌<◌}
-use native.Mathlib.Nat.{add-zero, zero-add, add_assoc}
+use Prim.Native.Nat.{ℕ, suc, ◌+◌, ◌-◌, ◌*◌, ◌≤◌, ◌<◌}
+use native.Mathlib.Nat.{add-zero, zero-add}
 use native.Mathlib.Omega.{arith}
 use lib.ListN.{length, get_or, drop}
 use lib.Seq.{get_or-drop, drop-drop}
@@ -14,16 +15,11 @@ use borrow.Author.Tests.{eq-eqb, ne_eqb, eqb-true, eqb-false, ltb-true, ltb-fals
 use Rattle.requests.specs.declared.Request.{Request}
 use Rattle.requests.specs.declared.Fit.{Fit}
 use Rattle.requests.specs.declared.Found.{Found}
-use Rattle.requests.specs.declared.Found.TheVariants.{At, Nowhere}
-use Rattle.requests.specs.declared.Scan.{Scan}
-use Rattle.requests.specs.Model.{serial_is, fits, any, find}
-use Rattle.requests.specs.Shares.{unit, counted}
+use Rattle.requests.specs.Model.{serial_is, fits, find}
 use Rattle.requests.specs.Region.{request_at, requests_from, requests_of, words_of}
 use Rattle.requests.specs.Answers.{gives, refused, no_such_request}
-use Rattle.requests.specs.Calls.{found_from, found, numbers, ahead, Finds, scanned}
+use Rattle.requests.specs.Calls.{At, Nowhere, found_from, found, numbers, ahead, Finds}
 use Rattle.requests.proofs.Basics.{decide, both_left, both_right}
-use Rattle.requests.proofs.CountLaws.{counted_most}
-use Rattle.requests.proofs.Placed.{serial_of, requests_few}
 
 -- the requests from place k on
 abbrev pub from : List ℕ → ℕ → List Request
@@ -34,10 +30,6 @@ module _ (w : List ℕ) where
   unfolding requests_of
   from_start h = rw (eq-eqb (length w) 768 h)
 
-  pub no_requests : (length w ≡ 768 → ⊥) → requests_of w ≡ []
-  unfolding requests_of
-  no_requests h = rw (ne_eqb (length w) 768 h)
-
   module _ (k : ℕ) where
     pub first_word : get_or (drop (k * 12) w) 0 0 ≡ get_or w (k * 12) 0
     first_word = get_or-drop (k * 12) w 0 0 ∙ ap (λ (i : ℕ). get_or w i 0) (add-zero (k * 12))
@@ -46,9 +38,6 @@ module _ (w : List ℕ) where
     next_place =
         let x : (k + 1) * 12 ≡ k * 12 + 12 = omega arith in
         rw (x, drop-drop)
-
-    pub serial_at : (request_at w k).serial ≡ get_or w (k * 12) 0
-    serial_at = serial_of (drop (k * 12) w) ∙ first_word
 
     pub from_end : 64 ≤ k → from w k ≡ []
     unfolding requests_from
@@ -86,50 +75,7 @@ module _ (w : List ℕ) where
     pub from_none : place_used ≡ false → from w k ≡ []
     from_none e = not_used e from_end from_unused
 
--- ---- counts
-
--- the requests from place k on counted, one place further, and at the end
-module _ (w : List ℕ) (k n : ℕ) where
-  pub counted_end : from w k ≡ [] → n ≡ n + counted (from w k)
-  unfolding counted
-  counted_end e = rw (e, add-zero)
-
-  module _ (h : k < 64) (z : get_or w (k * 12) 0 ≡ 0 → ⊥) (r : Request) (er : r ≡ request_at w k) (u : ℕ) (eu : u ≡ unit r.player) where
-    pub counted_on : n + counted (from w k) ≡ n + u + counted (from w (k + 1))
-    unfolding counted
-    counted_on = rw (from_used w k h z, eu, er) (sym (add_assoc n (unit (request_at w k).player) (counted (from w (k + 1)))))
-
-    -- and the number stays in its word
-    pub counted-fits : n + counted (from w k) ≡ counted (requests_of w) → n + u ≤ 64 * 2 ^ 56
-    counted-fits e =
-        let a = counted_on in
-        let b = counted_most (requests_of w) in
-        let c = requests_few w in
-        omega arith
-
 -- ---- a search
-
-module _ (w : List ℕ) (f : Fit) (n : ℕ) where
-  pub find_none : (length w ≡ 768 → ⊥) → Nowhere ≡ found f n w
-  unfolding found_from
-  find_none h = rw (no_requests w h)
-
-  pub find_start : length w ≡ 768 → found_from f n 0 (from w 0) ≡ found f n w
-  find_start h = ap (found_from f n 0) (from_start w h)
-
-  module _ (k : ℕ) where
-    pub find_end : from w k ≡ [] → found_from f n k (from w k) ≡ Nowhere
-    unfolding found_from
-    find_end e = rw e
-
-    module _ (h : k < 64) (z : get_or w (k * 12) 0 ≡ 0 → ⊥) where
-      pub find_here : get_or w (k * 12) 0 ≡ n → (r : Request) → r ≡ request_at w k → (b : Bool) → b ≡ fits f r → found_from f n k (from w k) ≡ cond b (At k r) Nowhere
-      unfolding found_from
-      find_here e r er b eb = rw (from_used w k h z, eq-eqb (request_at w k).serial n (serial_at w k ∙ e), eb, er)
-
-      pub find_on : (get_or w (k * 12) 0 ≡ n → ⊥) → found_from f n k (from w k) ≡ found_from f n (k + 1) (from w (k + 1))
-      unfolding found_from
-      find_on e = rw (from_used w k h z, ne_eqb (request_at w k).serial n (λ y. e (sym (serial_at w k) ∙ y)))
 
 -- the numbers where the serial stands, if the request fits
 numbers_here : (k : ℕ) (r : Request) (b : Bool) → numbers (cond b (At k r) Nowhere) ≡ cond b (gives ((k + 0) ∷ words_of r)) (refused no_such_request)
@@ -148,32 +94,9 @@ numbers-from f n k (r ∷ rs) =
     rw t (numbers-from f n (k + 1) rs ∙ rw x))
     (decide (serial_is n r))
 
-pub finds : (f : Fit) (n : ℕ) (w : List ℕ) (r : Found) → r ≡ found f n w → Finds f n w r
+pub finds : (f : Fit) (n : ℕ) (w : List ℕ) (r : Option Found) → r ≡ found f n w → Finds f n w r
 finds f n w r e = record { answer = e; numbered = ap numbers e ∙ numbers-from f n 0 (requests_of w) ∙ rw zero-add }
 
 -- the answer in its case; the fit is given, so that a search for another is refused without computing either
-pub found_as : (f : Fit) {n : ℕ} {w : List ℕ} {a r : Found} → Finds f n w a → r ≡ a → r ≡ found f n w
+pub found_as : (f : Fit) {n : ℕ} {w : List ℕ} {a r : Option Found} → Finds f n w a → r ≡ a → r ≡ found f n w
 found_as f x e = e ∙ x.answer
-
--- ---- a pass that tells
-
-module _ (f : Request → Bool) (w : List ℕ) where
-  -- what the pass will tell, once place k is reached with this result of the test and these counts
-  abbrev pub scan_at : ℕ → Bool → ℕ → Scan
-  scan_at k hit n = record { used = k + length (from w k); hit = hit || any f (from w k); counts = n + counted (from w k) }
-
-  pub scan_none : (length w ≡ 768 → ⊥) → record { used = 0; hit = false; counts = 0 } ≡ scanned f w
-  unfolding counted
-  scan_none h = rw (no_requests w h)
-
-  pub scan_start : length w ≡ 768 → scan_at 0 false 0 ≡ scanned f w
-  scan_start h = rw (from_start w h, zero-add, zero-add)
-
-  module _ (k : ℕ) (hit : Bool) (n : ℕ) where
-    pub scan_end : from w k ≡ [] → record { used = k; hit = hit; counts = n } ≡ scan_at k hit n
-    scan_end e = rw (← counted_end w k n e, e, add-zero, or-false)
-
-    pub scan_on : (h : k < 64) (z : get_or w (k * 12) 0 ≡ 0 → ⊥) (r : Request) → r ≡ request_at w k → (b : Bool) → b ≡ hit || f r → (u : ℕ) → u ≡ unit r.player → scan_at k hit n ≡ scan_at (k + 1) b (n + u)
-    scan_on h z r er b eb u eu =
-        let m : k + suc (length (from w (k + 1))) ≡ k + 1 + length (from w (k + 1)) = omega arith in
-        rw (counted_on w k n h z r er u eu, from_used w k h z, eb, er, m, or_assoc)

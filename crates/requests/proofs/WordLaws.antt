@@ -1,4 +1,4 @@
--- Words written one after another, words moved down, and a part that was lent and came back.
+-- Words written one after another.
 -- Assumes nothing.
 use mathlib.Core.Path.{◌≡◌, refl, sym, ap, ◌∙◌}
 use mathlib.Core.List.{List, [], ◌∷◌, ◌++◌, append-nil, append_assoc}
@@ -9,30 +9,9 @@ use native.Mathlib.Omega.{arith}
 use lib.ListN.{length, get_or, take, drop, set, replicate, length-set, length-drop, length-append, drop_of_length-le, take-append-drop}
 use lib.Seq.{length-take-le, take_at, drop-append-add, get_or-drop, take-suc, take-suc-set, take_all, take-set-le, drop-set-lt, drop-set-add, drop-drop}
 use borrow.Rule.Slice.PartMut.{put_mid}
-use Rattle.requests.specs.declared.Request.{Request}
-use Rattle.requests.specs.Region.{bit, words_of}
-use Rattle.requests.specs.Calls.{over, closed}
+use Rattle.requests.specs.Calls.{over}
 
 -- ---- `over`
-
-over-nil : (l : List ℕ) (i : ℕ) → over l i [] ≡ l
-unfolding over
-over-nil [] i = refl
-over-nil (x ∷ l) zero = refl
-over-nil (x ∷ l) (suc i) = ap (λ (t : List ℕ). x ∷ t) (over-nil l i)
-
-set-over : (l : List ℕ) (i v : ℕ) → set l i v ≡ over l i (v ∷ [])
-unfolding over
-set-over [] i v = refl
-set-over (x ∷ l) zero v = ap (λ (t : List ℕ). v ∷ t) (sym (over-nil l zero))
-set-over (x ∷ l) (suc i) v = ap (λ (t : List ℕ). x ∷ t) (set-over l i v)
-
-over-over : (l : List ℕ) (i : ℕ) (vs ws : List ℕ) → over (over l i vs) (i + length vs) ws ≡ over l i (vs ++ ws)
-unfolding over
-over-over [] i vs ws = refl
-over-over (x ∷ l) zero [] ws = refl
-over-over (x ∷ l) zero (v ∷ vs) ws = rw (zero-add, ← zero-add (length vs), over-over l zero vs ws)
-over-over (x ∷ l) (suc i) vs ws = rw (suc-add, over-over l i vs ws)
 
 -- nothing is written past the end
 pub over_out : (l : List ℕ) (i : ℕ) (vs : List ℕ) → length l ≤ i → over l i vs ≡ l
@@ -77,49 +56,6 @@ sets_from l n i u j v m x =
       drop-set-add n l i u,
     )
 
--- one more word at the end of a run
-over-set : (l : List ℕ) (i : ℕ) (vs : List ℕ) (v : ℕ) → set (over l i vs) (i + length vs) v ≡ over l i (vs ++ (v ∷ []))
-over-set l i vs v = set-over (over l i vs) (i + length vs) v ∙ over-over l i vs (v ∷ [])
-
--- twelve words, one by one
-sets_12 : (l : List ℕ) (b v₀ v₁ v₂ v₃ v₄ v₅ v₆ v₇ v₈ v₉ va vb : ℕ)
-    → set (set (set (set (set (set (set (set (set (set (set (set l b v₀) (b + 1) v₁) (b + 2) v₂) (b + 3) v₃) (b + 4) v₄) (b + 5) v₅) (b + 6) v₆) (b + 7) v₇) (b + 8) v₈) (b + 9) v₉) (b + 10) va) (b + 11) vb
-    ≡ over l b (v₀ ∷ v₁ ∷ v₂ ∷ v₃ ∷ v₄ ∷ v₅ ∷ v₆ ∷ v₇ ∷ v₈ ∷ v₉ ∷ va ∷ vb ∷ [])
-sets_12 l b v₀ v₁ v₂ v₃ v₄ v₅ v₆ v₇ v₈ v₉ va vb =
-    rw (
-      set-over l b v₀,
-      over-set l b (v₀ ∷ []) v₁,
-      over-set l b (v₀ ∷ v₁ ∷ []) v₂,
-      over-set l b (v₀ ∷ v₁ ∷ v₂ ∷ []) v₃,
-      over-set l b (v₀ ∷ v₁ ∷ v₂ ∷ v₃ ∷ []) v₄,
-      over-set l b (v₀ ∷ v₁ ∷ v₂ ∷ v₃ ∷ v₄ ∷ []) v₅,
-      over-set l b (v₀ ∷ v₁ ∷ v₂ ∷ v₃ ∷ v₄ ∷ v₅ ∷ []) v₆,
-      over-set l b (v₀ ∷ v₁ ∷ v₂ ∷ v₃ ∷ v₄ ∷ v₅ ∷ v₆ ∷ []) v₇,
-      over-set l b (v₀ ∷ v₁ ∷ v₂ ∷ v₃ ∷ v₄ ∷ v₅ ∷ v₆ ∷ v₇ ∷ []) v₈,
-      over-set l b (v₀ ∷ v₁ ∷ v₂ ∷ v₃ ∷ v₄ ∷ v₅ ∷ v₆ ∷ v₇ ∷ v₈ ∷ []) v₉,
-      over-set l b (v₀ ∷ v₁ ∷ v₂ ∷ v₃ ∷ v₄ ∷ v₅ ∷ v₆ ∷ v₇ ∷ v₈ ∷ v₉ ∷ []) va,
-      over-set l b (v₀ ∷ v₁ ∷ v₂ ∷ v₃ ∷ v₄ ∷ v₅ ∷ v₆ ∷ v₇ ∷ v₈ ∷ v₉ ∷ va ∷ []) vb,
-    )
-
--- words written from word b + i on, one by one
-abbrev pub puts : List ℕ → ℕ → ℕ → List ℕ → List ℕ
-puts l b i [] = l
-puts l b i (v ∷ vs) = puts (set l (b + i) v) b (suc i) vs
-
--- the words of a request, one by one, where o, d and a are the words of its marks
-pub put_place : (l : List ℕ) (b : ℕ) (r : Request) (o d a : ℕ) → o ≡ bit r.overlapped → d ≡ bit r.delivered → a ≡ bit r.abandoned
-    → puts (set l b r.serial) b 1 (r.player ∷ r.kind ∷ r.low ∷ r.high ∷ r.value ∷ r.guard ∷ o ∷ d ∷ a ∷ r.first ∷ r.second ∷ []) ≡ over l b (words_of r)
-put_place l b r o d a e₁ e₂ e₃ =
-    rw (e₁, e₂, e₃) (sets_12 l b r.serial r.player r.kind r.low r.high r.value r.guard (bit r.overlapped) (bit r.delivered) (bit r.abandoned) r.first r.second)
-
--- a word written at b, and more after it, leave the list as long as it was
-length-puts : (l : List ℕ) (b i : ℕ) (vs : List ℕ) → length (puts l b i vs) ≡ length l
-length-puts l b i [] = refl
-length-puts l b i (v ∷ vs) = length-puts (set l (b + i) v) b (suc i) vs ∙ length-set l (b + i) v
-
-pub puts_long : (l : List ℕ) (b v : ℕ) (vs : List ℕ) → length (puts (set l b v) b 1 vs) ≡ length l
-puts_long l b v vs = length-puts (set l b v) b 1 vs ∙ length-set l b v
-
 -- ---- a run of words that fits
 
 pub over_is : (l : List ℕ) (i : ℕ) (vs : List ℕ) → i + length vs ≤ length l → over l i vs ≡ take i l ++ (vs ++ drop (i + length vs) l)
@@ -147,15 +83,6 @@ module _ (l : List ℕ) (i : ℕ) (vs : List ℕ) (h : i + length vs ≤ length 
       ∙ drop-append-add (take i l ++ vs) (drop (i + length vs) l) (n - (i + length vs))
       ∙ drop-drop (n - (i + length vs)) (i + length vs) l
       ∙ ap (λ (m : ℕ). drop m l) f)
-
--- one word of a run written anew
-pub set_in_over : (l : List ℕ) (i : ℕ) (vs : List ℕ) (j v : ℕ) → j < length vs → set (over l i vs) (i + j) v ≡ over l i (set vs j v)
-unfolding over
-set_in_over [] i vs j v h = refl
-set_in_over (x ∷ l) zero [] j v h = absurd (omega (arith, h))
-set_in_over (x ∷ l) zero (u ∷ vs) zero v h = refl
-set_in_over (x ∷ l) zero (u ∷ vs) (suc j) v h = rw zero-add (ap (λ (t : List ℕ). u ∷ t) (rw zero-add at (set_in_over l zero vs j v (omega (arith, h)))))
-set_in_over (x ∷ l) (suc i) vs j v h = rw suc-add (ap (λ (t : List ℕ). x ∷ t) (set_in_over l i vs j v h))
 
 -- ---- words moved down by n, from b on up to i
 
@@ -198,29 +125,7 @@ drop_done w₀ w p n i l z m e =
     let o : drop 12 (drop n w) ≡ [] = drop_of_length-le (drop n w) {i = 12} (omega arith) in
     rw (e, r, d, q, o, front, t)
 
--- a place closed: it is the first of those from it on
-pub close_done : (w p : List ℕ) (k : ℕ) → p ≡ drop 12 (take (length w - k * 12) (drop (k * 12) w)) ++ replicate 12 0
-    → put_mid (k * 12) (length w - k * 12) w p ≡ closed k w
-unfolding closed
-close_done w p k e =
-    let q : length (drop (k * 12) w) ≡ length w - k * 12 = length-drop (k * 12) w in
-    let d : take (length w - k * 12) (drop (k * 12) w) ≡ drop (k * 12) w = take_all (length w - k * 12) (drop (k * 12) w) (omega (arith, q)) in
-    let o : drop (length w - k * 12) (drop (k * 12) w) ≡ [] = drop_of_length-le (drop (k * 12) w) {i = length w - k * 12} (omega (arith, q)) in
-    rw (e, d, o, append-nil, drop-drop)
-
--- a place moved down
-pub move_done : (w₀ w : List ℕ) (j k i : ℕ) → j ≤ k → k < 64 → length w₀ ≡ 768 → i ≤ j * 12 + 12 → j * 12 + 12 ≤ i → Shifted (k * 12 - j * 12) (j * 12) i w₀ w → w ≡ over w₀ (j * 12) (take 12 (drop (k * 12) w₀))
-move_done w₀ w j k i a b l h h' m =
-    let z : i ≡ j * 12 + 12 = omega arith in
-    let n : j * 12 + (k * 12 - j * 12) ≡ k * 12 = omega arith in
-    let o : j * 12 + 12 - j * 12 ≡ 12 = omega arith in
-    let c : List ℕ = take 12 (drop (k * 12) w₀) in
-    let front : take (j * 12 + 12) w ≡ take (j * 12) w₀ ++ c = rw (z, n, o) at m.front in
-    let back : drop (j * 12 + 12) w ≡ drop (j * 12 + 12) w₀ = rw z at m.back in
-    let lc : length c ≡ 12 = length-take-le 12 (drop (k * 12) w₀) (rw length-drop (omega arith)) in
-    sym (take-append-drop (j * 12 + 12) w) ∙ rw (front, back, append_assoc) (sym (over_is w₀ (j * 12) c (omega arith) ∙ rw lc))
-
--- a place moved onto itself
+-- a place moved to where it stands
 pub move_none : (w : List ℕ) (j k : ℕ) → j ≡ k → k < 64 → length w ≡ 768 → w ≡ over w (j * 12) (take 12 (drop (k * 12) w))
 move_none w j k e h l =
     let c : List ℕ = take 12 (drop (k * 12) w) in

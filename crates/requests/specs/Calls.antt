@@ -1,10 +1,9 @@
 -- What each call finds in a region, and does to it. A region that is not whole has no requests, and stays as it is.
 -- Assumes nothing.
-use Rattle.std.specs.Prelude.{◌≡◌, Bool, cond, not, ◌&&◌, List, [], ◌∷◌, ◌++◌, ℕ, zero, suc, ◌+◌, ◌-◌, ◌*◌, ltb, eqb, length, get_or, take, drop, set, replicate}
+use Rattle.std.specs.Prelude.{◌≡◌, Option, Some, None, Bool, cond, not, ◌&&◌, List, [], ◌∷◌, ◌++◌, ℕ, zero, suc, ◌+◌, ◌-◌, ◌*◌, ltb, eqb, length, get_or, take, drop, set, replicate}
 use Rattle.requests.specs.declared.Request.{Request}
 use Rattle.requests.specs.declared.Fit.{Fit}
 use Rattle.requests.specs.declared.Found.{Found}
-use Rattle.requests.specs.declared.Found.TheVariants.{At, Nowhere}
 use Rattle.requests.specs.declared.Scan.{Scan}
 use Rattle.requests.specs.Model.{places, serial_is, by, pending, fits, writing, using_entry, any, find, mark_abandoned}
 use Rattle.requests.specs.Shares.{counted}
@@ -13,18 +12,25 @@ use Rattle.requests.specs.Answers.{Numbers, gives, refused, no_such_request}
 
 -- ---- what is found
 
+-- the answers of a search: r, at place k; none
+abbrev pub At : ℕ → Request → Option Found
+At k r = Some (record { place = k; request = r })
+
+abbrev pub Nowhere : Option Found
+Nowhere = None
+
 -- the first request with serial n, if it fits, and its place, where the list's first is at place k
-unfoldable pub found_from : Fit → ℕ → ℕ → List Request → Found
+unfoldable pub found_from : Fit → ℕ → ℕ → List Request → Option Found
 found_from f n k [] = Nowhere
 found_from f n k (r ∷ rs) = cond (serial_is n r) (cond (fits f r) (At k r) Nowhere) (found_from f n (k + 1) rs)
 
-abbrev pub found : Fit → ℕ → List ℕ → Found
+abbrev pub found : Fit → ℕ → List ℕ → Option Found
 found f n w = found_from f n 0 (requests_of w)
 
 -- the numbers of each case of that answer: 0 with the place and the request's twelve words, or the refusal's number and two zeros
-abbrev pub numbers : Found → Numbers
-numbers (At k r) = gives (k ∷ words_of r)
-numbers Nowhere = refused no_such_request
+abbrev pub numbers : Option Found → Numbers
+numbers (Some a) = gives (a.place ∷ words_of a.request)
+numbers None = refused no_such_request
 
 -- how many requests stand ahead of the first of which the test holds
 abbrev pub ahead : (Request → Bool) → List Request → ℕ
@@ -37,7 +43,7 @@ found_numbers f n w =
     find (serial_is n) (requests_of w) (refused no_such_request) (λ r. cond (fits f r) (gives (ahead (serial_is n) (requests_of w) ∷ words_of r)) (refused no_such_request))
 
 -- what a search promises: the answer, and its numbers
-pub record Finds (f : Fit) (n : ℕ) (w : List ℕ) (r : Found) : Type 0 where
+pub record Finds (f : Fit) (n : ℕ) (w : List ℕ) (r : Option Found) : Type 0 where
   pub answer : r ≡ found f n w
   pub numbered : numbers r ≡ found_numbers f n w
 
@@ -78,6 +84,10 @@ unfoldable pub without : ℕ → List ℕ → List ℕ
 without k w = cond (whole w && ltb k places) (closed k w) w
 
 -- ---- all places changed
+
+-- the words of a place, which stand first, with the overlapped mark where the test holds of its request
+abbrev pub overlapped_words : (Request → Bool) → List ℕ → List ℕ
+overlapped_words f w = cond (f (request_of w)) (set w 7 1) w
 
 -- of n places, up to the first that is not used, those of which the test holds get the overlapped mark
 unfoldable pub overlapped_from : (Request → Bool) → ℕ → List ℕ → List ℕ

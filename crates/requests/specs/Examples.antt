@@ -1,13 +1,13 @@
 -- Worked cases of the lent list, of a search, of a pass over the requests, and of the shares.
 -- Assumes nothing.
-use Rattle.std.specs.Prelude.{◌≡◌, refl, Bool, true, false, cond, List, [], ◌∷◌, ◌++◌, map, ℕ, zero, suc, ◌+◌, ◌*◌, ◌^◌, eqb, replicate}
+use Rattle.std.specs.Prelude.{◌≡◌, refl, Bool, true, false, cond, List, [], ◌∷◌, ◌++◌, map, ℕ, zero, suc, ◌+◌, ◌*◌, eqb, replicate}
 use Rattle.store.specs.Calls.{reply}
 use Rattle.store.specs.Table.{at_most}
 use Rattle.requests.specs.declared.Request.{Request}
 use Rattle.requests.specs.declared.LentRequest.{LentRequest}
 use Rattle.requests.specs.declared.Fit.TheVariants.{Undelivered, Answerable, Pending, Abandoned}
 use Rattle.requests.specs.Model.{places, loader, writing, using_entry, new_request, mark_abandoned, mark_delivered}
-use Rattle.requests.specs.Shares.{own_places, common_places, turned_away, counted as counted_requests, count_in}
+use Rattle.requests.specs.Shares.{own_places, common_places, turned_away, count_in}
 use Rattle.requests.specs.Region.{request_of, requests_from, requests_of, placed, region_of, fields_hold, outcome_holds, request_holds, words_fit, places_hold, valid}
 use Rattle.requests.specs.Answers.{gives, refused}
 use Rattle.requests.specs.Calls.{found_numbers, scanned, overlapped_from, crossing, crossed}
@@ -62,8 +62,8 @@ twice_case = refl
 -- a read of entry 45 by player 3 is not looked for by a read, and is by a write there
 pub sought_case :
     map (λ f. scanned f (region_of (request (place 1 3 0 0 0) ∷ []))) (writing 3 45 ∷ using_entry 3 45 ∷ using_entry 3 44 ∷ [])
-    ≡ map (λ b. record { used = 1; hit = b; counts = 128 ^ 3 }) (false ∷ true ∷ false ∷ [])
-unfolding request_of requests_from requests_of placed counted_requests
+    ≡ map (λ b. record { used = 1; hit = b; counts = 0 ∷ 0 ∷ 0 ∷ 1 ∷ 0 ∷ 0 ∷ 0 ∷ 0 ∷ 0 ∷ [] }) (false ∷ true ∷ false ∷ [])
+unfolding request_of requests_from requests_of placed
 sought_case = refl
 
 -- which marks it
@@ -105,15 +105,15 @@ unfolding request_of requests_from requests_of placed fields_hold outcome_holds 
 shares_case = refl
 
 -- the counts of a region, by player: the loader's are the ninth, and a number above it has none
-abbrev some_counts : ℕ
+abbrev some_counts : List ℕ
 some_counts = (scanned (writing 0 9) (region_of (some 0 20 1 ++ some 1 5 21 ++ some 2 6 26 ++ some 9 1 32 ++ some loader 2 33))).counts
 
 pub counts_case : map (count_in some_counts) (0 ∷ 1 ∷ 2 ∷ 3 ∷ 7 ∷ loader ∷ []) ≡ 20 ∷ 5 ∷ 6 ∷ 0 ∷ 0 ∷ 2 ∷ []
-unfolding request_of requests_from requests_of placed counted_requests
+unfolding request_of requests_from requests_of placed
 counts_case = refl
 
 -- 14 and 2 common places are in use: no place is left for a 21st request of player 0 and a seventh of player 2, and one is for a sixth of player 1 and a
 -- first of player 3; none for the loader, nor for a number above it
 pub full_case : map (turned_away (count_in some_counts)) (0 ∷ 1 ∷ 2 ∷ 3 ∷ loader ∷ 9 ∷ []) ≡ true ∷ false ∷ true ∷ false ∷ true ∷ true ∷ []
-unfolding request_of requests_from requests_of placed counted_requests
+unfolding request_of requests_from requests_of placed
 full_case = refl

@@ -1,6 +1,6 @@
 -- Rows for everyone (document 02 §5): the places that each player has of its own, and those that are common to all.
 -- Assumes nothing.
-use Rattle.std.specs.Prelude.{Bool, cond, ◌&&◌, ◌||◌, List, [], ◌∷◌, ℕ, zero, suc, ◌+◌, ◌-◌, ◌*◌, ◌/◌, ◌%◌, ◌^◌, leb}
+use Rattle.std.specs.Prelude.{Bool, cond, ◌&&◌, ◌||◌, List, [], ◌∷◌, ℕ, zero, suc, ◌+◌, ◌-◌, leb, get_or}
 use Rattle.requests.specs.declared.Request.{Request}
 use Rattle.requests.specs.Model.{loader, by}
 
@@ -43,17 +43,13 @@ turned_away c p = (leb loader p || leb own_places (c p)) && leb common_places (c
 abbrev pub no_place : ℕ → List Request → Bool
 no_place p rs = turned_away (λ q. count_by q rs) p
 
--- ---- the counts as one number, which a pass over the places adds up: seven binary digits for each player, and for the loader
+-- ---- the counts as nine numbers, which a pass over the places adds up
 
--- what one request of player p adds; a number above the loader's has no count
-abbrev pub unit : ℕ → ℕ
-unit p = cond (leb p loader) (2 ^ (7 * p)) 0
+-- the requests of a list counted: those of each player, and the loader's; a number above the loader's has no count
+abbrev pub counted : List Request → List ℕ
+counted rs =
+    count_by 0 rs ∷ count_by 1 rs ∷ count_by 2 rs ∷ count_by 3 rs ∷ count_by 4 rs ∷ count_by 5 rs ∷ count_by 6 rs ∷ count_by 7 rs ∷ count_by loader rs ∷ []
 
--- the requests of a list counted
-unfoldable pub counted : List Request → ℕ
-counted [] = 0
-counted (r ∷ rs) = unit r.player + counted rs
-
--- the count of player p in such a number
-abbrev pub count_in : ℕ → ℕ → ℕ
-count_in n p = n / 2 ^ (7 * p) % 128
+-- the count of player p among them
+abbrev pub count_in : List ℕ → ℕ → ℕ
+count_in cs p = get_or cs p 0

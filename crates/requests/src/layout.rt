@@ -1,23 +1,12 @@
-// The requests: places of twelve words, one word for each field.
+//! The requests: places of twelve words, one word for each field.
+
 pub const PLACES: usize = 64;
 
 pub const SIZE: usize = 12;
 
 pub const WORDS: usize = PLACES * SIZE;
 
-// The fields, after the serial.
-pub const PLAYER: usize = 1;
-
-pub const KIND: usize = 2;
-
-pub const LOW: usize = 3;
-
-pub const HIGH: usize = 4;
-
-pub const VALUE: usize = 5;
-
-pub const GUARD: usize = 6;
-
+// The fields that a call writes alone.
 pub const OVERLAPPED: usize = 7;
 
 pub const DELIVERED: usize = 8;
@@ -28,10 +17,14 @@ pub const FIRST: usize = 10;
 
 pub const SECOND: usize = 11;
 
-// The player of a load.
+/// The player of a load.
 pub const LOADER: u8 = 8;
 
-// The places that each player has of its own, and those that are common to the players and the loader.
-pub const OWN_PLACES: u64 = 6;
+/// Those that send requests: the eight players, and the loader.
+pub const SENDERS: usize = 9;
 
-pub const COMMON_PLACES: u64 = 16;
+/// The places that each player has of its own.
+pub const OWN_PLACES: u8 = 6;
+
+/// Those that are common to the players and the loader.
+pub const COMMON_PLACES: u32 = 16;

@@ -1,151 +1,157 @@
-// One place of the region: 12 words, which hold a request.
-ghost use Rattle.std.specs.Prelude.{◌≡◌, ◌++◌, cond, not, ◌&&◌, ◌+◌, ◌*◌, ◌≤◌, ◌<◌, ltb, eqb, length, get_or, take, drop, set, replicate};
-ghost use Rattle.requests.specs.Model.{by, using_entry};
-ghost use Rattle.requests.specs.Region.{request_at, bit, words_of, region_words};
-ghost use Rattle.requests.specs.Calls.{over, closed, carried, carry};
+//! The places of a region: 12 words each, which hold a request.
+ghost use Rattle.std.specs.Prelude.{◌≡◌, ◌++◌, ◌/◌, ◌≤◌, length, drop, replicate};
+ghost use Rattle.std.specs.Iterator.{YieldsFirst, item_count};
+ghost use Rattle.std.specs.Iterator.Runs.{YieldsInOrder};
+ghost use Rattle.requests.specs.declared.Request.{Request as Row};
+ghost use Rattle.requests.specs.Region.{request_of, requests_of, words_of, region_words};
+ghost use Rattle.requests.specs.Calls.{overlapped_words, overlapped_from, carried, carry, remains};
 
-use crate::{Request, fields, layout, tests};
-use store::words;
+use crate::tests::Test;
+use crate::{Request, layout};
+use std::marker::Model;
 
-// The request of place `k`.
-pub(crate) fn request_at(region: &[u32], k: usize) -> Request
-    requires { (k < 64) × (length region.now ≡ region_words) }
-    ensures { result ≡ request_at region.now k }
+/// The words of a place.
+pub(crate) type Place = [u32; layout::SIZE];
+
+/// The request of a place; a word too large for its field is cut to the field's width.
+#[tactic(auto, unfolding(crate::specs::Region::request_of))]
+pub(crate) fn request_of(place: &Place) -> Request
+    ensures { result ≡ request_of place.now }
 {
-    let b = k * layout::SIZE;
+    let [
+        serial,
+        player,
+        kind,
+        low,
+        high,
+        value,
+        guard,
+        overlapped,
+        delivered,
+        abandoned,
+        first,
+        second,
+    ] = *place;
     Request {
-        serial: region[b],
-        player: fields::byte(region[b + layout::PLAYER]),
-        kind: fields::byte(region[b + layout::KIND]),
-        low: fields::byte(region[b + layout::LOW]),
-        high: fields::half(region[b + layout::HIGH]),
-        value: region[b + layout::VALUE],
-        guard: region[b + layout::GUARD],
-        overlapped: fields::flag(region[b + layout::OVERLAPPED]),
-        delivered: fields::flag(region[b + layout::DELIVERED]),
-        abandoned: fields::flag(region[b + layout::ABANDONED]),
-        first: region[b + layout::FIRST],
-        second: region[b + layout::SECOND],
+        serial,
+        player: (player % 256) as u8,
+        kind: (kind % 256) as u8,
+        low: (low % 256) as u8,
+        high: (high % 65536) as u16,
+        value,
+        guard,
+        overlapped: overlapped == 1,
+        delivered: delivered == 1,
+        abandoned: abandoned == 1,
+        first,
+        second,
     }
 }
 
-// Whether there is a place `k`, and it is used.
-pub(crate) fn is_used(region: &[u32], k: usize) -> bool
-    requires { length region.now ≡ region_words }
-    ensures { result ≡ ltb k 64 && not (eqb (get_or region.now (k * 12) 0) 0) }
+/// The words of a request.
+pub(crate) fn words_of(request: &Request) -> Place
+    ensures { result ≡ words_of request.now }
 {
-    if k >= layout::PLACES {
-        return false;
+    [
+        request.serial,
+        request.player.into(),
+        request.kind.into(),
+        request.low.into(),
+        request.high.into(),
+        request.value,
+        request.guard,
+        request.overlapped.into(),
+        request.delivered.into(),
+        request.abandoned.into(),
+        request.first,
+        request.second,
+    ]
+}
+
+/// The requests that are still to come, seen as their list.
+#[derive(Drop)]
+pub(crate) struct Requests<'a> {
+    rest: &'a [u32],
+}
+
+impl<'a> Model for Requests<'a> {
+    ghost use Rattle.std.specs.Prelude.{List};
+    ghost use Rattle.requests.specs.declared.Request.{Request as Row};
+    ghost use Rattle.requests.specs.Region.{requests_in};
+
+    ghost Value = { List Row };
+
+    ghost view = { λ s. requests_in s.rest.now };
+}
+
+impl<'a> Iterator for Requests<'a> {
+    type Item = Request;
+
+    ghost next_gives = { YieldsFirst (λ rest. rest) };
+
+    ghost remaining = { item_count (λ rest. rest) };
+
+    fn next(&mut self) -> Option<Request> {
+        let (place, rest) = self.rest.split_first_chunk::<{ layout::SIZE }>()?;
+        if place[0] == 0 {
+            self.rest = &[];
+            return None;
+        }
+        self.rest = rest;
+        Some(request_of(place))
     }
-    region[k * layout::SIZE] != 0
 }
 
-// A mark's word.
-fn bit(b: bool) -> u32
-    ensures { result ≡ bit b }
+/// The requests of a region, and none of one that is not whole.
+pub(crate) fn requests_in(region: &[u32]) -> Requests<'_>
+    ensures all { result ≡ requests_of region.now }
+    ensures runs { YieldsInOrder (YieldsFirst {A = Row} (λ rest. rest)) (λ rest. rest) }
 {
-    if b { 1 } else { 0 }
+    if region.len() == layout::WORDS {
+        return Requests { rest: region };
+    }
+    Requests { rest: &[] }
 }
 
-// Makes place `k` hold `r`.
-pub(crate) fn put_request(region: &mut [u32], k: usize, r: Request)
-    requires { (k < 64) × (length region.old ≡ region_words) }
-    ensures { region.new ≡ over region.old (k * 12) (words_of r) }
+/// Marks the request of a place as overlapped if the test holds of it.
+fn mark<T: Test>(place: &mut Place, test: &T)
+    ensures { place.new ≡ overlapped_words (T.holds test.now) place.old }
 {
-    let b = k * layout::SIZE;
-    region[b] = r.serial;
-    region[b + layout::PLAYER] = r.player as u32;
-    region[b + layout::KIND] = r.kind as u32;
-    region[b + layout::LOW] = r.low as u32;
-    region[b + layout::HIGH] = r.high as u32;
-    region[b + layout::VALUE] = r.value;
-    region[b + layout::GUARD] = r.guard;
-    region[b + layout::OVERLAPPED] = bit(r.overlapped);
-    region[b + layout::DELIVERED] = bit(r.delivered);
-    region[b + layout::ABANDONED] = bit(r.abandoned);
-    region[b + layout::FIRST] = r.first;
-    region[b + layout::SECOND] = r.second;
+    if test.holds(&request_of(place)) {
+        place[layout::OVERLAPPED] = 1;
+    }
 }
 
-// Takes the first of these places out: later ones move down by one, and the last becomes unused.
-fn drop_first(places: &mut [u32])
+/// Marks the requests of which the test holds as overlapped, up to the first place that is not used.
+pub(crate) fn overlap<T: Test>(places: &mut [u32], test: &T)
+    ensures { places.new ≡ overlapped_from (T.holds test.now) (length places.old / 12) places.old }
+{
+    let Some((place, rest)) = places.split_first_chunk_mut::<{ layout::SIZE }>() else {
+        return;
+    };
+    if place[0] == 0 {
+        return;
+    }
+    mark(place, test);
+    overlap(rest, test);
+}
+
+/// Makes the first of these places hold `words`.
+pub(crate) fn write_first(places: &mut [u32], words: &Place)
+    requires { 12 ≤ length places.old }
+    ensures { places.new ≡ words.now ++ drop 12 places.old }
+{
+    *places.first_chunk_mut().unwrap() = *words;
+}
+
+/// Takes the first of these places out: later ones move down by one, and the last becomes unused.
+pub(crate) fn drop_first(places: &mut [u32])
     requires { 12 ≤ length places.old }
     ensures { places.new ≡ drop 12 places.old ++ replicate 12 0 }
 {
     let n = places.len() - layout::SIZE;
-    let mut i = 0;
-    while i < n {
+    for i in 0..n {
         places[i] = places[i + layout::SIZE];
-        i += 1;
     }
-    words::fill(&mut places[n..], 0);
-}
-
-// Takes place `k` out: later places move down by one, and the last becomes unused.
-pub(crate) fn close(region: &mut [u32], k: usize)
-    requires { (k < 64) × (length region.old ≡ region_words) }
-    ensures { region.new ≡ closed k region.old }
-{
-    drop_first(&mut region[k * layout::SIZE..]);
-}
-
-// Marks the request of place `k` as overlapped if it is a pending read or write of the player on the entry.
-pub(crate) fn overlap(region: &mut [u32], k: usize, player: u8, entry: u8)
-    requires { (k < 64) × (length region.old ≡ region_words) }
-    ensures { region.new ≡ cond (using_entry player entry (request_at region.old k)) (set region.old (k * 12 + 7) 1) region.old }
-{
-    if !tests::is_using(region, k, player, entry) {
-        return;
-    }
-    region[k * layout::SIZE + layout::OVERLAPPED] = 1;
-}
-
-// Copies the words of place `k` down to place `j`.
-fn copy_down(region: &mut [u32], j: usize, k: usize)
-    requires { (j ≤ k) × (k < 64) × (length region.old ≡ region_words) }
-    ensures { region.new ≡ over region.old (j * 12) (take 12 (drop (k * 12) region.old)) }
-{
-    let b = j * layout::SIZE;
-    let n = k * layout::SIZE - b;
-    let mut i = b;
-    while i < b + layout::SIZE {
-        region[i] = region[i + n];
-        i += 1;
-    }
-}
-
-// Moves the words of place `k` down to place `j`, unless they are there.
-fn move_down(region: &mut [u32], j: usize, k: usize)
-    requires { (j ≤ k) × (k < 64) × (length region.old ≡ region_words) }
-    ensures { region.new ≡ over region.old (j * 12) (take 12 (drop (k * 12) region.old)) }
-{
-    if j == k {
-        return;
-    }
-    copy_down(region, j, k);
-}
-
-// Marks the request `r` of place `j` as abandoned if it is the player's.
-fn give_up(region: &mut [u32], j: usize, r: Request, player: u8)
-    requires { (j < 64) × (length region.old ≡ region_words) }
-    ensures { region.new ≡ cond (by player r) (set region.old (j * 12 + 9) 1) region.old }
-{
-    if r.player != player {
-        return;
-    }
-    region[j * layout::SIZE + layout::ABANDONED] = 1;
-}
-
-// Carries the request of place `k` over to place `j` if it remains when the player restarts. The place for the next one.
-pub(crate) fn carry(region: &mut [u32], j: usize, k: usize, player: u8) -> usize
-    requires { (j ≤ k) × (k < 64) × (length region.old ≡ region_words) }
-    ensures { carried result region.new ≡ carry player j k region.old }
-{
-    let r = request_at(region, k);
-    if !tests::remains(r, player) {
-        return j;
-    }
-    move_down(region, j, k);
-    give_up(region, j, r, player);
-    j + 1
+    places[n..].fill(0);
 }

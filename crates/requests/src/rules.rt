@@ -1,170 +1,120 @@
-// The rules of the region, tested.
-ghost use Rattle.std.specs.Prelude.{◌≡◌, ◌&&◌, ◌*◌, ◌<◌, length, drop};
-ghost use Rattle.requests.specs.Shares.{shares_hold};
-ghost use Rattle.requests.specs.Region.{guard_request_holds, read_holds, write_holds, load_holds, fields_hold, outcome_holds, request_holds, words_fit, places_hold, region_words, requests_of};
+//! The rules of the region, tested.
+ghost use Rattle.std.specs.Prelude.{◌≡◌, ◌/◌, length};
+ghost use Rattle.requests.specs.Region.{words_fit, places_hold};
 
-use crate::{Request, kinds, layout, places, shares};
+use crate::places::{Place, request_of};
+use crate::{Request, kinds, layout};
 use store::words;
 
-// Whether the fields of a guard request keep the rules.
-fn guard_request_holds(r: Request) -> bool
-    ensures { result ≡ guard_request_holds r }
-{
-    if r.low as u16 >= r.high {
-        return false;
-    }
-    if r.high > 256 {
-        return false;
-    }
-    if r.value != 0 {
-        return false;
-    }
-    if r.guard != 0 {
-        return false;
-    }
-    !r.overlapped
-}
+impl Request {
+    ghost use Rattle.std.specs.Prelude.{◌≡◌};
+    ghost use Rattle.requests.specs.Region.{guard_request_holds, read_holds, write_holds, load_holds, fields_hold, outcome_holds, request_holds};
 
-// Whether the fields of a read keep the rules.
-fn read_holds(r: Request) -> bool
-    ensures { result ≡ read_holds r }
-{
-    if r.high != 0 {
-        return false;
+    /// Whether the fields of a guard request keep the rules.
+    fn guard_request_holds(self) -> bool
+        ensures { result ≡ guard_request_holds self }
+    {
+        u16::from(self.low) < self.high
+            && self.high <= 256
+            && self.value == 0
+            && self.guard == 0
+            && !self.overlapped
     }
-    r.value == 0
-}
 
-// Whether the fields of a player's write keep the rules.
-fn write_holds(r: Request) -> bool
-    ensures { result ≡ write_holds r }
-{
-    if r.high != 0 {
-        return false;
+    /// Whether the fields of a read keep the rules.
+    fn read_holds(self) -> bool
+        ensures { result ≡ read_holds self }
+    {
+        self.high == 0 && self.value == 0
     }
-    r.guard != 0
-}
 
-// Whether the fields of a load keep the rules.
-fn load_holds(r: Request) -> bool
-    ensures { result ≡ load_holds r }
-{
-    if r.high != 0 {
-        return false;
+    /// Whether the fields of a player's write keep the rules.
+    fn write_holds(self) -> bool
+        ensures { result ≡ write_holds self }
+    {
+        self.high == 0 && self.guard != 0
     }
-    if r.overlapped {
-        return false;
-    }
-    r.guard == store::layout::OPEN
-}
 
-// Whether the fields that a request's kind has, and those that it lacks, keep the rules. The loader's is a write.
-fn fields_hold(r: Request) -> bool
-    ensures { result ≡ fields_hold r }
-{
-    if r.player == layout::LOADER {
-        if r.kind != kinds::WRITE {
+    /// Whether the fields of a load keep the rules.
+    fn load_holds(self) -> bool
+        ensures { result ≡ load_holds self }
+    {
+        self.high == 0 && !self.overlapped && self.guard == store::layout::OPEN
+    }
+
+    /// Whether the fields that its kind has, and those that it lacks, keep the rules. The loader's is a write.
+    #[tactic(auto, unfolding(crate::specs::Region::fields_hold))]
+    fn fields_hold(self) -> bool
+        ensures { result ≡ fields_hold self }
+    {
+        if self.player == layout::LOADER {
+            return self.kind == kinds::WRITE && self.load_holds();
+        }
+        match self.kind {
+            kinds::GUARD_REQUEST => self.guard_request_holds(),
+            kinds::READ => self.read_holds(),
+            kinds::WRITE => self.write_holds(),
+            _ => false,
+        }
+    }
+
+    /// Whether its outcome keeps the rules.
+    #[tactic(auto, unfolding(crate::specs::Region::outcome_holds))]
+    fn outcome_holds(self, last: u32) -> bool
+        ensures { result ≡ outcome_holds last self }
+    {
+        if !self.delivered {
+            return self.first == 0 && self.second == 0;
+        }
+        if self.abandoned {
             return false;
         }
-        return load_holds(r);
+        if self.kind == kinds::READ {
+            return self.first <= last;
+        }
+        1 <= self.first && self.first <= 2 && self.second == 0
     }
-    if r.kind == kinds::GUARD_REQUEST {
-        return guard_request_holds(r);
+
+    /// Whether it keeps the rules.
+    #[tactic(auto, unfolding(crate::specs::Region::request_holds))]
+    fn holds(self, last: u32) -> bool
+        ensures { result ≡ request_holds last self }
+    {
+        self.serial <= last
+            && self.player <= layout::LOADER
+            && self.guard < self.serial
+            && self.fields_hold()
+            && self.outcome_holds(last)
     }
-    if r.kind == kinds::READ {
-        return read_holds(r);
-    }
-    if r.kind == kinds::WRITE {
-        return write_holds(r);
-    }
-    false
 }
 
-// Whether a request's outcome keeps the rules.
-fn outcome_holds(r: Request, last: u32) -> bool
-    ensures { result ≡ outcome_holds last r }
+/// Whether the words of a place fit their fields: player, kind, low, high and the three marks.
+#[tactic(auto, unfolding(crate::specs::Region::words_fit))]
+fn words_fit(place: &Place) -> bool
+    ensures { result ≡ words_fit place.now }
 {
-    if !r.delivered {
-        if r.first != 0 {
-            return false;
-        }
-        return r.second == 0;
-    }
-    if r.abandoned {
-        return false;
-    }
-    if r.kind == kinds::READ {
-        return r.first <= last;
-    }
-    if r.first < 1 {
-        return false;
-    }
-    if r.first > 2 {
-        return false;
-    }
-    r.second == 0
+    place[1] <= u32::from(layout::LOADER)
+        && place[2] <= 255
+        && place[3] <= 255
+        && place[4] <= 65535
+        && place[layout::OVERLAPPED] <= 1
+        && place[layout::DELIVERED] <= 1
+        && place[layout::ABANDONED] <= 1
 }
 
-// Whether a request keeps the rules.
-fn request_holds(r: Request, last: u32) -> bool
-    ensures { result ≡ request_holds last r }
+/// Whether the places keep the rules, where the request before them has the serial `before`.
+pub(crate) fn places_hold(places: &[u32], before: u32, last: u32) -> bool
+    ensures { result ≡ places_hold last before (length places.now / 12) places.now }
 {
-    if r.serial > last {
-        return false;
+    let Some((place, rest)) = places.split_first_chunk::<{ layout::SIZE }>() else {
+        return true;
+    };
+    let serial = place[0];
+    if serial == 0 {
+        return words::are_zero(places);
     }
-    if r.player > layout::LOADER {
-        return false;
-    }
-    if r.guard >= r.serial {
-        return false;
-    }
-    if !fields_hold(r) {
-        return false;
-    }
-    outcome_holds(r, last)
-}
-
-// Whether the words of place `k` fit their fields.
-fn words_fit(region: &[u32], k: usize) -> bool
-    requires { (k < 64) × (length region.now ≡ region_words) }
-    ensures { result ≡ words_fit (drop (k * 12) region.now) }
-{
-    let b = k * layout::SIZE;
-    (region[b + layout::PLAYER] <= layout::LOADER as u32)
-        & (region[b + layout::KIND] <= 255)
-        & (region[b + layout::LOW] <= 255)
-        & (region[b + layout::HIGH] <= 65535)
-        & (region[b + layout::OVERLAPPED] <= 1)
-        & (region[b + layout::DELIVERED] <= 1)
-        & (region[b + layout::ABANDONED] <= 1)
-}
-
-// Whether the 64 places keep the rules, and the players their shares of them.
-pub(crate) fn places_hold(region: &[u32], last: u32) -> bool
-    requires { length region.now ≡ region_words }
-    ensures { result ≡ places_hold last 0 64 region.now && shares_hold (requests_of region.now) }
-{
-    let mut counts: u64 = 0;
-    let mut serial: u32 = 0;
-    let mut k = 0;
-    while places::is_used(region, k) {
-        let next = region[k * layout::SIZE];
-        if next <= serial {
-            return false;
-        }
-        if !words_fit(region, k) {
-            return false;
-        }
-        let r = places::request_at(region, k);
-        if !request_holds(r, last) {
-            return false;
-        }
-        counts += shares::unit(r.player);
-        serial = next;
-        k += 1;
-    }
-    if !words::are_zero(&region[k * layout::SIZE..]) {
-        return false;
-    }
-    shares::are_kept(counts)
+    before < serial
+        && words_fit(place)
+        && request_of(place).holds(last)
+        && places_hold(rest, serial, last)
 }

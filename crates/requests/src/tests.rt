@@ -1,102 +1,103 @@
-// Tests of one request: some read words of its place, and end at the first that decides; others are given the request.
-ghost use Rattle.std.specs.Prelude.{◌≡◌, ◌||◌, ◌<◌, length};
-ghost use Rattle.requests.specs.Model.{fits, requesting, writing, using_entry};
-ghost use Rattle.requests.specs.Region.{request_at, region_words};
-ghost use Rattle.requests.specs.Calls.{remains};
+//! Tests of one request.
 
-use crate::{Fit, Request, fields, kinds};
+use crate::{Fit, Request, kinds};
 use store::Range;
 
-// Whether place `k` holds a pending guard request of the player that shares an entry with the range.
-pub(crate) fn is_requesting(region: &[u32], k: usize, player: u8, range: Range) -> bool
-    requires { (k < 64) × (length region.now ≡ region_words) }
-    ensures { result ≡ requesting player range (request_at region.now k) }
-{
-    if fields::player(region, k) != player {
-        return false;
-    }
-    if fields::kind(region, k) != kinds::GUARD_REQUEST {
-        return false;
-    }
-    if fields::abandoned(region, k) {
-        return false;
-    }
-    if fields::low(region, k) as u16 >= range.high {
-        return false;
-    }
-    (range.low as u16) < fields::high(region, k)
+/// A test of a request.
+pub trait Test {
+    ghost use Rattle.std.specs.Prelude.{◌≡◌, Bool};
+    ghost use Rattle.requests.specs.declared.Request.{Request as Row};
+
+    ghost holds: { Self → Row → Bool };
+
+    fn holds(&self, request: &Request) -> bool
+        ensures { result ≡ holds self.now request.now };
 }
 
-// Whether place `k` holds a pending write of the player on the entry.
-pub(crate) fn is_writing(region: &[u32], k: usize, player: u8, entry: u8) -> bool
-    requires { (k < 64) × (length region.now ≡ region_words) }
-    ensures { result ≡ writing player entry (request_at region.now k) }
-{
-    if fields::low(region, k) != entry {
-        return false;
-    }
-    if fields::player(region, k) != player {
-        return false;
-    }
-    if fields::kind(region, k) != kinds::WRITE {
-        return false;
-    }
-    !fields::abandoned(region, k)
+/// A pending guard request of the player that shares an entry with the range.
+#[derive(Clone, Copy, Debug, PartialEq, Eq)]
+pub struct Requesting {
+    pub player: u8,
+    pub range: Range,
 }
 
-// Whether place `k` holds a pending read or write of the player on the entry.
-pub(crate) fn is_using(region: &[u32], k: usize, player: u8, entry: u8) -> bool
-    requires { (k < 64) × (length region.now ≡ region_words) }
-    ensures { result ≡ using_entry player entry (request_at region.now k) }
-{
-    if fields::low(region, k) != entry {
-        return false;
+impl Test for Requesting {
+    ghost use Rattle.requests.specs.Model.{requesting};
+
+    ghost holds = { λ t r. requesting t.player t.range r };
+
+    fn holds(&self, request: &Request) -> bool {
+        !request.abandoned
+            && request.kind == kinds::GUARD_REQUEST
+            && request.player == self.player
+            && u16::from(request.low) < self.range.high
+            && u16::from(self.range.low) < request.high
     }
-    if fields::player(region, k) != player {
-        return false;
-    }
-    if fields::kind(region, k) == kinds::GUARD_REQUEST {
-        return false;
-    }
-    !fields::abandoned(region, k)
 }
 
-// Whether a step that names it fits it.
-pub(crate) fn fits(r: Request, fit: Fit) -> bool
-    ensures { result ≡ fits fit r }
-{
-    match fit {
-        Fit::Undelivered => !r.delivered,
-        Fit::Answerable => {
-            if r.abandoned {
-                return false;
-            }
-            r.delivered
+/// A pending write of the player on the entry.
+#[derive(Clone, Copy, Debug, PartialEq, Eq)]
+pub struct Writing {
+    pub player: u8,
+    pub entry: u8,
+}
+
+impl Test for Writing {
+    ghost use Rattle.requests.specs.Model.{writing};
+
+    ghost holds = { λ t r. writing t.player t.entry r };
+
+    fn holds(&self, request: &Request) -> bool {
+        !request.abandoned
+            && request.kind == kinds::WRITE
+            && request.player == self.player
+            && request.low == self.entry
+    }
+}
+
+/// A pending read or write of the player on the entry.
+#[derive(Clone, Copy, Debug, PartialEq, Eq)]
+pub struct UsingEntry {
+    pub player: u8,
+    pub entry: u8,
+}
+
+impl Test for UsingEntry {
+    ghost use Rattle.requests.specs.Model.{using_entry};
+
+    ghost holds = { λ t r. using_entry t.player t.entry r };
+
+    fn holds(&self, request: &Request) -> bool {
+        !request.abandoned
+            && request.kind != kinds::GUARD_REQUEST
+            && request.player == self.player
+            && request.low == self.entry
+    }
+}
+
+impl Test for Fit {
+    ghost use Rattle.requests.specs.Model.{fits};
+
+    ghost holds = { fits };
+
+    fn holds(&self, request: &Request) -> bool {
+        match *self {
+            Fit::Undelivered => !request.delivered,
+            Fit::Answerable => request.delivered && !request.abandoned,
+            Fit::Pending => !request.abandoned,
+            Fit::Abandoned => request.abandoned,
         }
-        Fit::Pending => !r.abandoned,
-        Fit::Abandoned => r.abandoned,
     }
 }
 
-// Whether a request remains when the player restarts: all but those of its pending ones that are delivered.
-pub(crate) fn remains(r: Request, player: u8) -> bool
-    ensures { result ≡ remains player r }
-{
-    if r.player != player {
-        return true;
-    }
-    if r.abandoned {
-        return true;
-    }
-    !r.delivered
-}
+impl Request {
+    ghost use Rattle.std.specs.Prelude.{◌≡◌};
+    ghost use Rattle.requests.specs.Calls.{remains};
 
-// Whether one of two tests holds.
-pub(crate) fn either(a: bool, b: bool) -> bool
-    ensures { result ≡ a || b }
-{
-    if a {
-        return true;
+    /// Whether it remains when the player restarts: all but those of its pending ones that are delivered.
+    pub(crate) fn remains(&self, player: u8) -> bool
+        ensures { result ≡ remains player self.now }
+    {
+        !(self.player == player && !self.abandoned && self.delivered)
     }
-    b
 }

@@ -1,13 +1,13 @@
--- The bytes of a record: a number's put one by one, the fields of a map put one by one, and the record of a step by its six numbers.
+-- The bytes of a record: those of numbers, the fields of a map one by one, and the record of a step by its six numbers.
 -- Assumes nothing.
 use mathlib.Core.Path.{◌≡◌, ◌∙◌, refl, ap}
 use mathlib.Core.Bool.{Bool, true, false, cond}
 use mathlib.Core.List.{List, [], ◌∷◌, ◌++◌, append_assoc, append-nil}
-use Prim.Native.Nat.{ℕ, zero, suc, ◌+◌, ◌-◌, ◌/◌, ◌%◌, ◌^◌, ◌≤◌, ◌<◌}
+use Prim.Native.Nat.{ℕ, zero, suc, ◌/◌, ◌%◌, ◌<◌}
 use native.Mathlib.Omega.{arith}
-use native.Mathlib.Nat.{pow-suc}
-use lib.ListN.{length, take, drop, get_or}
+use lib.ListN.{length, drop, get_or}
 use borrow.Author.Tests.{eq-eqb}
+use Rattle.std.specs.Int.{w16, w32, to_le_bytes}
 use Rattle.players.specs.declared.Step.{Step}
 use Rattle.players.specs.Kinds.{stands, map_of, kind_and_fields, kind, spread, numbers_of}
 use Rattle.players.proofs.StepCases.{bits, known}
@@ -15,43 +15,7 @@ use Rattle.players.proofs.KindLaws.{kind_map}
 use Rattle.session.specs.Layout.{widths, bytes, field_bytes}
 use Rattle.session.specs.Records.{record_of, encode}
 use Rattle.session.specs.Fields.{standing, six}
-use Rattle.session.specs.Text.{Puts, standing_bytes, first_bytes}
-
--- ---- a number, byte by byte
-
--- of the number n, at a place of the line l, the rest still has so many bytes
-pub record Left (l : List ℕ) (at width n : ℕ) (l' : List ℕ) (place rest left : ℕ) : Type 0 where
-  pub stands : take place l' ++ bytes left rest ≡ take at l ++ bytes width n
-  pub ends : place + left ≤ at + width
-  pub fits : rest < 256 ^ left
-
--- nothing is put yet
-pub number_begin : (l : List ℕ) (at width n : ℕ) → n < 256 ^ width → Left l at width n l at n width
-number_begin l at width n h = record { stands = refl; ends = omega arith; fits = h }
-
-module _ (l : List ℕ) (at width n : ℕ) (l' l'' : List ℕ) (place rest r : ℕ) where
-  -- one byte more
-  pub number_more : (left : ℕ) → 1 < left → Left l at width n l' place rest left → Puts (rest % 256 ∷ []) 1 place l' l'' r
-      → Left l at width n l'' r (rest / 256) (left - 1)
-  number_more zero h a p = absurd (omega arith)
-  number_more (suc zero) h a p = absurd (omega arith)
-  number_more (suc (suc w)) h a p =
-      let q : suc (suc w) - 1 ≡ suc w = omega arith in
-      rw q
-      (record {
-        stands =
-            ap (λ (k : List ℕ). k ++ bytes (suc w) (rest / 256)) p.stands
-            ∙ append_assoc (take place l') (rest % 256 ∷ []) (bytes (suc w) (rest / 256))
-            ∙ a.stands;
-        ends = omega (arith, a.ends, p.ends);
-        fits = omega (arith, a.fits, pow-suc 256 (suc w));
-      })
-
-  -- the last
-  pub number_end : (left : ℕ) → left ≡ 1 → Left l at width n l' place rest left → Puts (rest ∷ []) 1 place l' l'' r → Puts (bytes width n) width at l l'' r
-  number_end left q a p =
-      let a' : Left l at width n l' place rest 1 = rw q at a in
-      record { stands = p.stands ∙ a'.stands; ends = omega (arith, a'.ends, p.ends) }
+use Rattle.session.specs.Text.{standing_bytes, standing_in}
 
 -- ---- the fields of a map
 
@@ -73,16 +37,40 @@ no_fields : (m : ℕ) (vs : List ℕ) → field_bytes [] m vs ≡ []
 unfolding field_bytes
 no_fields m vs = refl
 
--- a map and all six
+-- all six
 pub six-bytes : (m k p e h v s : ℕ)
-    → first_bytes m k p e ++ (standing_bytes (m / 8) 2 h ++ (standing_bytes (m / 16) 4 v ++ standing_bytes (m / 32) 4 s))
-    ≡ m ∷ field_bytes widths m (standing m (six k p e h v s))
+    → standing_bytes m 1 k ++ (standing_bytes (m / 2) 1 p ++ (standing_bytes (m / 4) 1 e ++ (standing_bytes (m / 8) 2 h ++ (standing_bytes (m / 16) 4 v ++ standing_bytes (m / 32) 4 s))))
+    ≡ field_bytes widths m (standing m (six k p e h v s))
 six-bytes m k p e h v s =
     let q2 : m / 2 / 2 ≡ m / 4 = omega arith in
     let q3 : m / 4 / 2 ≡ m / 8 = omega arith in
     let q4 : m / 8 / 2 ≡ m / 16 = omega arith in
     let q5 : m / 16 / 2 ≡ m / 32 = omega arith in
     simp (append_assoc, field_first, no_fields, append-nil, q2, q3, q4, q5)
+
+-- appended one by one, or all at once
+grouped : (m : ℕ) (a b c d e f : List ℕ) → ((((((m ∷ []) ++ a) ++ b) ++ c) ++ d) ++ e) ++ f ≡ m ∷ (a ++ (b ++ (c ++ (d ++ (e ++ f)))))
+grouped m a b c d e f = simp append_assoc
+
+-- a map and all six, appended one by one
+pub appended : (m k p e h v s : ℕ) {hb vb sb l1 l2 l3 l4 l5 l6 l7 : List ℕ} → hb ≡ bytes 2 h → vb ≡ bytes 4 v → sb ≡ bytes 4 s → l1 ≡ m ∷ []
+    → l2 ≡ l1 ++ standing_in m (k ∷ []) → l3 ≡ l2 ++ standing_in (m / 2) (p ∷ []) → l4 ≡ l3 ++ standing_in (m / 4) (e ∷ [])
+    → l5 ≡ l4 ++ standing_in (m / 8) hb → l6 ≡ l5 ++ standing_in (m / 16) vb → l7 ≡ l6 ++ standing_in (m / 32) sb
+    → l7 ≡ m ∷ field_bytes widths m (standing m (six k p e h v s))
+appended m k p e h v s eh ev es e1 e2 e3 e4 e5 e6 e7 =
+    rw (e7, e6, e5, e4, e3, e2, e1, eh, ev, es) (grouped m (standing_bytes m 1 k) (standing_bytes (m / 2) 1 p) (standing_bytes (m / 4) 1 e) (standing_bytes (m / 8) 2 h) (standing_bytes (m / 16) 4 v) (standing_bytes (m / 32) 4 s)
+    ∙ ap (λ (l : List ℕ). m ∷ l) (six-bytes m k p e h v s))
+
+-- the bytes of numbers of two and of four bytes
+pub two_bytes : (n : ℕ) → n < 65536 → to_le_bytes w16 n ≡ bytes 2 n
+two_bytes n h = let e : n / 256 % 256 ≡ n / 256 = omega arith in rw e
+
+pub four_bytes : (n : ℕ) → n < 4294967296 → to_le_bytes w32 n ≡ bytes 4 n
+four_bytes n h =
+    let e1 : n / 256 / 256 ≡ n / 65536 = omega arith in
+    let e2 : n / 65536 / 256 ≡ n / 16777216 = omega arith in
+    let e3 : n / 16777216 % 256 ≡ n / 16777216 = omega arith in
+    rw (e1, e2, e3)
 
 -- ---- a step
 
@@ -107,12 +95,10 @@ first_number x =
     let m = map_of (kind x) in
     rw (eq-eqb (m % 2) 1 (kind_map (kind x) (known x).force).odd)
 
--- six numbers put by the map of their kind are their record
-pub by_map : (vs : List ℕ) {m r : ℕ} {l l' : List ℕ} → m ≡ map_of (get_or vs 0 0) → Puts (m ∷ field_bytes widths m (standing m vs)) 14 0 l l' r → Puts (record_of vs) 14 0 l l' r
-by_map vs e p = rw (← e) p
+-- six numbers put by the map of the step's kind are the step's record
+pub encoded : (x : Step) (m : ℕ) (vs : List ℕ) → m ≡ map_of (kind x) → vs ≡ numbers_of x → m ∷ field_bytes widths m (standing m vs) ≡ encode x
+encoded x m vs k e = rw (k, e, standing-spread 6 (map_of (kind x)) (kind_and_fields x) (known x).fields)
 
--- their record is the step's
-pub encoded : (x : Step) (vs : List ℕ) → vs ≡ numbers_of x → record_of vs ≡ encode x
-encoded x vs e =
-    let k : map_of (get_or vs 0 0) ≡ map_of (kind x) = ap (λ (l : List ℕ). map_of (get_or l 0 0)) e ∙ ap map_of (first_number x) in
-    rw (k, e, standing-spread 6 (map_of (kind x)) (kind_and_fields x) (known x).fields)
+-- and those put by the map of their kind are their record
+pub by_map : (vs : List ℕ) (m : ℕ) → m ≡ map_of (get_or vs 0 0) → m ∷ field_bytes widths m (standing m vs) ≡ record_of vs
+by_map vs m e = rw e

@@ -1,48 +1,20 @@
--- A list that begins with some bytes: byte by byte, and as a whole.
+-- A list that begins with some bytes.
 -- Assumes nothing.
-use mathlib.Core.Path.{◌≡◌, refl, ap}
+use mathlib.Core.Path.{◌≡◌, refl, sym, ap}
 use mathlib.Core.Bool.{Bool, true, false, ◌&&◌}
 use mathlib.Core.List.{List, [], ◌∷◌, ◌++◌}
-use Prim.Native.Nat.{ℕ, suc, ◌<◌}
+use Prim.Native.Nat.{ℕ}
 use native.Mathlib.Omega.{arith}
 use lib.Dec.{eqb}
-use lib.ListN.{length, get_or, take, drop}
-use lib.Seq.{drop-cons}
-use borrow.Author.Tests.{eqb-true, eq-eqb, ne_eqb}
+use lib.ListN.{length, take}
+use borrow.Author.Tests.{eqb-true, eqb-false, eq-eqb, ne_eqb}
+use Rattle.std.specs.Prelude.{nat_eq}
+use Rattle.std.specs.List.{starts_with}
 use Rattle.session.specs.Mark.{begins}
-
-and-false : (a b : Bool) → b ≡ false → (a && b) ≡ false
-and-false true b e = e
-and-false false b e = refl
-
-and-true : (a : Bool) → a ≡ (a && true)
-and-true true = refl
-and-true false = refl
 
 both_true : (a b : Bool) → (a && b) ≡ true → (a ≡ true) × (b ≡ true)
 both_true true b e = (refl, e)
 both_true false b e = absurd (let z : ◌≡◌ {A = ℕ} 0 1 = cc in omega arith)
-
--- a shorter list does not
-pub shorter : (bs s : List ℕ) → length s < length bs → begins bs s ≡ false
-unfolding begins
-shorter [] s h = absurd (omega arith)
-shorter (b ∷ bs) [] h = refl
-shorter (b ∷ bs) (c ∷ s) h = and-false (eqb c b) (begins bs s) (shorter bs s (omega arith))
-
--- the byte at i is the next, is another, or is the last to be tested
-module _ (b : ℕ) (bs s : List ℕ) (i : ℕ) (h : i < length s) where
-  pub same_at : get_or s i 0 ≡ b → begins (b ∷ bs) (drop i s) ≡ begins bs (drop (suc i) s)
-  unfolding begins
-  same_at e = rw (drop-cons s i 0 h, eq-eqb (get_or s i 0) b e)
-
-  pub other_at : (get_or s i 0 ≡ b → ⊥) → begins (b ∷ bs) (drop i s) ≡ false
-  unfolding begins
-  other_at e = rw (drop-cons s i 0 h, ne_eqb (get_or s i 0) b e)
-
-pub last_at : (b : ℕ) (s : List ℕ) (i : ℕ) → i < length s → eqb (get_or s i 0) b ≡ begins (b ∷ []) (drop i s)
-unfolding begins
-last_at b s i h = rw (drop-cons s i 0 h) (and-true (eqb (get_or s i 0) b))
 
 -- what it begins with
 pub begins-take : (bs s : List ℕ) → begins bs s ≡ true → take (length bs) s ≡ bs
@@ -57,3 +29,17 @@ pub begins-append : (bs s : List ℕ) → begins bs (bs ++ s) ≡ true
 unfolding begins
 begins-append [] s = refl
 begins-append (b ∷ bs) s = rw (eq-eqb b b refl) (begins-append bs s)
+
+-- the library's test
+eqb_swap : (a b : ℕ) → eqb a b ≡ eqb b a
+eqb_swap a b = by (eqb a b) refl
+  where
+    by : (t : Bool) → eqb a b ≡ t → t ≡ eqb b a
+    by true e = sym (eq-eqb b a (sym (eqb-true a b e)))
+    by false e = sym (ne_eqb b a (λ z. eqb-false a b e (sym z)))
+
+pub begins-starts_with : (bs s : List ℕ) → starts_with nat_eq s bs ≡ begins bs s
+unfolding begins
+begins-starts_with [] s = refl
+begins-starts_with (b ∷ bs) [] = refl
+begins-starts_with (b ∷ bs) (c ∷ s) = rw (eqb_swap b c, begins-starts_with bs s)

@@ -9,8 +9,7 @@ use lib.Dec.{ltb, leb, eqb}
 use lib.ListN.{length}
 use Rattle.players.specs.Replies.{refusal}
 use Rattle.requests.proofs.Basics.{cond_elim}
-use Rattle.session.specs.declared.Decoded.{Decoded}
-use Rattle.session.specs.declared.Decoded.TheVariants.{Record, Refused}
+use Rattle.session.specs.Decoded.{Decoded, Record, Refused}
 use Rattle.players.specs.Kinds.{stands, map_of, in_force}
 use Rattle.session.specs.Layout.{record_length}
 use Rattle.session.specs.Records.{cut_short, wrong_fields, map_at, kind_at, tested, decode}

@@ -15,8 +15,7 @@ use Rattle.players.specs.Kinds.{map_of, in_force, kind_and_fields, kind, step_of
 use Rattle.players.proofs.StepCases.{bits, known}
 use Rattle.players.proofs.KindLaws.{kind_map}
 use Rattle.session.specs.Layout.{widths, record_length, fields_length, fields, field_bytes}
-use Rattle.session.specs.declared.Decoded.{Decoded}
-use Rattle.session.specs.declared.Decoded.TheVariants.{Record, Refused}
+use Rattle.session.specs.Decoded.{Decoded, Record, Refused}
 use Rattle.session.specs.Fields.{standing}
 use Rattle.session.specs.Records.{unknown_kind, map_at, kind_at, fields_at, decode, of_numbers, Decodes, record_of, encode, Bytes}
 use Rattle.session.proofs.Tested.{Accepted, accepted, Outcome, refuses, accepts, outcome}
@@ -94,6 +93,11 @@ module _ (s : List ℕ) (a : Accepted s) where
             rw (a.takes Numbers refused _, en)
             (ap (λ (vs : List ℕ). gives (record_length (map_at s) ∷ vs)) (ap kind_and_fields e ∙ rw a.map read.whole));
       }
+
+-- a record that has a kind has two bytes
+pub odd_length : (m : ℕ) → m % 2 ≡ 1 → 2 ≤ record_length m
+unfolding record_length fields_length
+odd_length m e = rw (eq-eqb (m % 2) 1 e) (omega arith)
 
 -- what the decoder accepted
 record Found (s : List ℕ) (x : Step) (n : ℕ) : Type 1 where

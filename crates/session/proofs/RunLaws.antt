@@ -12,9 +12,8 @@ use lib.Dec.{eqb, leb}
 use borrow.Author.Tests.{lt-ltb, le-ltb, ne_eqb}
 use Rattle.players.specs.declared.Step.{Step}
 use Rattle.players.specs.Rules.{State, step}
-use Rattle.session.specs.declared.Report.{Report}
-use Rattle.session.specs.declared.Decoded.{Decoded}
-use Rattle.session.specs.declared.Decoded.TheVariants.{Record, Refused}
+use Rattle.session.specs.Reports.{Report}
+use Rattle.session.specs.Decoded.{Decoded, Record, Refused}
 use Rattle.session.specs.Records.{cut_short, tested, decode, encode, encode_all, Bytes}
 use Rattle.session.specs.Mark.{mark, marked}
 use Rattle.session.specs.Runs.{report, Run, at_end, too_long, longest, stopped, run_from, allowed, run, steps_from, steps}

@@ -20,22 +20,9 @@ use Rattle.session.proofs.FieldLaws.{count_fields}
 pub beyond : (n k : ℕ) → n ≤ k → (k ≡ n → ⊥) → suc n ≤ k
 beyond n k h e = omega arith
 
--- a step of the kind m with the fields that stand in the bytes is that of the kind k, where k is m
-pub of_kind : (m : ℕ) {k : ℕ} (s : List ℕ) {x : Step} → k ≡ m → x ≡ step_of m (fields widths (map_of m) s 1) → x ≡ step_of k (fields widths (map_of k) s 1)
-of_kind m s e h = rw e h
-
 -- a step is known by its fields, a range by its ends
 pub by_range : (f : Range → Step) (r : Range) {lo hi : ℕ} → r.low ≡ lo → r.high ≡ hi → f r ≡ f (record { low = lo; high = hi })
 by_range f r a b = rw (← a, ← b)
-
-pub by_player_and_range : (f : ℕ → Range → Step) (r : Range) {p q lo hi : ℕ} → p ≡ q → r.low ≡ lo → r.high ≡ hi → f p r ≡ f q (record { low = lo; high = hi })
-by_player_and_range f r e a b = rw (← e, ← a, ← b)
-
-pub by_two : (f : ℕ → ℕ → Step) {p q d e : ℕ} → p ≡ q → d ≡ e → f p d ≡ f q e
-by_two f a b = rw (← a, ← b)
-
-pub by_three : (f : ℕ → ℕ → ℕ → Step) {p q d e v w : ℕ} → p ≡ q → d ≡ e → v ≡ w → f p d v ≡ f q e w
-by_three f a b c = rw (← a, ← b, ← c)
 
 -- ---- the third of the numbers that are read is a byte
 

@@ -10,8 +10,7 @@ use borrow.Author.Tests.{ltb-true, ltb-false, leb-true, leb-false, eqb-true, eqb
 use Rattle.requests.specs.Answers.{Numbers, refused}
 use Rattle.players.specs.Kinds.{stands, map_of, in_force}
 use Rattle.session.specs.Layout.{record_length}
-use Rattle.session.specs.declared.Decoded.{Decoded}
-use Rattle.session.specs.declared.Decoded.TheVariants.{Refused}
+use Rattle.session.specs.Decoded.{Decoded, Refused}
 use Rattle.session.specs.Records.{cut_short, unknown_field, unknown_kind, wrong_fields, map_at, kind_at, tested, Decodes}
 
 -- whatever is made of it, the tests come to the refusal n

@@ -10,7 +10,7 @@ use Rattle.players.specs.Rules.{State, replies, fresh}
 use Rattle.players.specs.Cases.{session as session_steps, session_replies, cases as step_cases, Case as StepCase}
 use Rattle.players.specs.Kinds.{map_of, step_of}
 use Rattle.session.specs.Layout.{fields_length, record_length, fields, field_bytes}
-use Rattle.session.specs.declared.Decoded.TheVariants.{Record}
+use Rattle.session.specs.Decoded.{Record}
 use Rattle.session.specs.Records.{cut_short, unknown_field, unknown_kind, wrong_fields, tested, decode, numbers, encode, encode_all}
 use Rattle.session.specs.Mark.{mark, begins}
 use Rattle.session.specs.Runs.{Run, at_end, spent, no_mark, run, run_from, preview_budget}

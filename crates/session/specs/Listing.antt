@@ -8,7 +8,7 @@ use Rattle.players.specs.Kinds.{map_of, step_of}
 use Rattle.session.specs.Layout.{fields_length, record_length, fields}
 use Rattle.session.specs.Records.{tested}
 use Rattle.session.specs.Mark.{begins}
-use Rattle.session.specs.declared.Report.{Report}
+use Rattle.session.specs.Reports.{Report}
 use Rattle.session.specs.Runs.{Run, run, run_from}
 use Rattle.session.specs.Cases.{worked_session}
 

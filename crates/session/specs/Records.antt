@@ -6,8 +6,7 @@ use Rattle.players.specs.declared.Step.{Step}
 use Rattle.players.specs.Kinds.{stands, map_of, in_force, kind_and_fields, kind, step_of}
 use Rattle.session.specs.Layout.{widths, record_length, fields, field_bytes}
 use Rattle.session.specs.Fields.{standing}
-use Rattle.session.specs.declared.Decoded.{Decoded}
-use Rattle.session.specs.declared.Decoded.TheVariants.{Record, Refused}
+use Rattle.session.specs.Decoded.{Decoded, Record, Refused}
 
 -- ---- refusals
 

@@ -1,39 +1,19 @@
-// Writing to a lent buffer.
-ghost use Rattle.std.specs.Prelude.{◌≡◌, ◌++◌, ◌≤◌, length, drop};
+//! Writing to a lent buffer.
+ghost use Rattle.std.specs.Prelude.{◌≡◌, ◌≤◌, length};
+ghost use Rattle.store.specs.Answers.{of_count, as_reply};
 ghost use Rattle.session.specs.Written.{wrote, written};
 
-use crate::codes;
-use store::Reply;
+use store::Refusal;
 
-// Puts the bytes over the start of the buffer.
-fn put(bytes: &[u8], out: &mut [u8])
-    requires { length bytes.now ≤ length out.old }
-    ensures { out.new ≡ bytes.now ++ drop (length bytes.now) out.old }
-{
-    let mut i = 0;
-    while i < bytes.len() {
-        out[i] = bytes[i];
-        i += 1;
-    }
-}
-
-// Writes the bytes to the start of the buffer: 0 and their number, or 36 where the buffer is shorter.
-pub(crate) fn write(bytes: &[u8], out: &mut [u8]) -> Reply
+/// Writes the bytes to the start of the buffer, and gives their number; 36 where the buffer is shorter.
+pub(crate) fn write(bytes: &[u8], out: &mut [u8]) -> Result<u32, Refusal>
     requires { length bytes.now ≤ 255 }
-    ensures { wrote result out.new ≡ written bytes.now out.old }
+    ensures { wrote (as_reply of_count result) out.new ≡ written bytes.now out.old }
 {
     let n = bytes.len();
     if out.len() < n {
-        return Reply {
-            code: codes::BUFFER_SHORT,
-            a: 0,
-            b: 0,
-        };
+        return Err(Refusal::BufferShort);
     }
-    put(bytes, out);
-    Reply {
-        code: store::codes::DONE,
-        a: n as u32,
-        b: 0,
-    }
+    out[..n].copy_from_slice(bytes);
+    Ok(n as u32)
 }

@@ -1,190 +1,235 @@
-// The kinds of steps in force: of each its number, its map and its fields. A new kind is a line of each list here.
-ghost use Rattle.std.specs.Prelude.{◌≡◌, true};
-ghost use Rattle.players.specs.Kinds.{map_of, in_force, step_of, numbers_of};
+//! The kinds of steps in force: of each its number, its map and its fields. A new kind is a line of each list here.
+ghost use Rattle.std.specs.Prelude.{◌≡◌, ◌≤◌, length};
+ghost use Rattle.players.specs.Kinds.{map_of, step_of, kind, numbers_of};
 ghost use Rattle.session.specs.Layout.{widths, fields};
-ghost use Rattle.session.specs.Fields.{six, numbers};
+ghost use Rattle.session.specs.Fields.{numbers};
+ghost use Rattle.session.specs.Kinds.{code_of, kind_of};
 
-use crate::{Fields, numbers};
+use crate::Fields;
+use crate::reader::Reader;
 use players::Step;
-use store::Range;
+use store::{Range, Refusal};
 
-pub const ASSIGN: u8 = 1;
-
-pub const RELEASE: u8 = 2;
-
-pub const REQUEST_GUARD: u8 = 3;
-
-pub const READ: u8 = 4;
-
-pub const WRITE: u8 = 5;
-
-pub const DELIVER: u8 = 6;
-
-pub const RESPOND: u8 = 7;
-
-pub const ABANDON: u8 = 8;
-
-pub const LOSE: u8 = 9;
-
-pub const SPLIT: u8 = 10;
-
-pub const MERGE: u8 = 11;
-
-pub const RESTART_TABLET: u8 = 12;
-
-pub const RESTART_PLAYER: u8 = 13;
-
-pub const FIND_INTERVAL: u8 = 14;
-
-pub const LOAD: u8 = 15;
-
-// The last of them.
-const LAST: u8 = LOAD;
-
-// The map of a number that is no kind in force.
-pub(crate) const NO_MAP: u8 = 0x00;
-
-// The map of each kind, from 0, which is no kind.
-const MAPS: [u8; 16] = [
-    NO_MAP, 0x0F, 0x0D, 0x0F, 0x07, 0x17, 0x21, 0x21, 0x21, 0x21, 0x05, 0x05, 0x05, 0x03, 0x05,
-    0x15,
-];
-
-// The map of a kind in force, or none.
-pub(crate) fn map_of(kind: u8) -> u8
-    ensures { result ≡ map_of kind }
-{
-    if kind > LAST {
-        return NO_MAP;
-    }
-    MAPS[kind as usize]
+/// What a step is, by the numbers of docs/RULES.md.
+#[derive(Clone, Copy, Debug, PartialEq, Eq, Hash)]
+pub enum Kind {
+    Assign = 1,
+    Release = 2,
+    RequestGuard = 3,
+    Read = 4,
+    Write = 5,
+    Deliver = 6,
+    Respond = 7,
+    Abandon = 8,
+    Lose = 9,
+    Split = 10,
+    Merge = 11,
+    RestartTablet = 12,
+    RestartPlayer = 13,
+    FindInterval = 14,
+    Load = 15,
 }
 
-// The step of a kind whose fields stand in the part.
-pub(crate) fn step_of(kind: u8, part: &[u8]) -> Step
-    requires { in_force kind ≡ true }
-    ensures { result ≡ step_of kind (fields widths (map_of kind) part.now 1) }
-{
-    match kind {
-        ASSIGN => Step::Assign {
-            player: numbers::byte_at(part, 2),
-            range: numbers::range_at(part, 3),
-        },
-        RELEASE => Step::Release {
-            range: numbers::range_at(part, 2),
-        },
-        REQUEST_GUARD => Step::RequestGuard {
-            player: numbers::byte_at(part, 2),
-            range: numbers::range_at(part, 3),
-        },
-        READ => Step::Read {
-            player: numbers::byte_at(part, 2),
-            entry: numbers::byte_at(part, 3),
-        },
-        WRITE => Step::Write {
-            player: numbers::byte_at(part, 2),
-            entry: numbers::byte_at(part, 3),
-            value: numbers::word32(part, 4),
-        },
-        DELIVER => Step::Deliver {
-            serial: numbers::word32(part, 2),
-        },
-        RESPOND => Step::Respond {
-            serial: numbers::word32(part, 2),
-        },
-        ABANDON => Step::Abandon {
-            serial: numbers::word32(part, 2),
-        },
-        LOSE => Step::Lose {
-            serial: numbers::word32(part, 2),
-        },
-        SPLIT => Step::Split {
-            entry: numbers::byte_at(part, 2),
-        },
-        MERGE => Step::Merge {
-            entry: numbers::byte_at(part, 2),
-        },
-        RESTART_TABLET => Step::RestartTablet {
-            entry: numbers::byte_at(part, 2),
-        },
-        RESTART_PLAYER => Step::RestartPlayer {
-            player: numbers::byte_at(part, 2),
-        },
-        FIND_INTERVAL => Step::FindInterval {
-            entry: numbers::byte_at(part, 2),
-        },
-        _ => Step::Load {
-            entry: numbers::byte_at(part, 2),
-            value: numbers::word32(part, 3),
-        },
+impl TryFrom<u8> for Kind {
+    type Error = Refusal;
+
+    ghost try_from_gives = { λ code r. r ≡ kind_of code };
+
+    fn try_from(code: u8) -> Result<Kind, Refusal> {
+        match code {
+            1 => Ok(Kind::Assign),
+            2 => Ok(Kind::Release),
+            3 => Ok(Kind::RequestGuard),
+            4 => Ok(Kind::Read),
+            5 => Ok(Kind::Write),
+            6 => Ok(Kind::Deliver),
+            7 => Ok(Kind::Respond),
+            8 => Ok(Kind::Abandon),
+            9 => Ok(Kind::Lose),
+            10 => Ok(Kind::Split),
+            11 => Ok(Kind::Merge),
+            12 => Ok(Kind::RestartTablet),
+            13 => Ok(Kind::RestartPlayer),
+            14 => Ok(Kind::FindInterval),
+            15 => Ok(Kind::Load),
+            _ => Err(Refusal::UnknownKind),
+        }
     }
 }
 
-// The fields of a kind with a range.
-fn ranged(kind: u8, player: u8, range: Range) -> Fields
-    ensures { numbers result ≡ six kind player range.low range.high 0 0 }
-{
-    Fields {
-        kind,
-        player,
-        entry: range.low,
-        high: range.high,
-        value: 0,
-        serial: 0,
+impl From<Kind> for u8 {
+    ghost from_gives = { λ k code. code ≡ code_of k };
+
+    fn from(kind: Kind) -> u8 {
+        kind as u8
     }
 }
 
-// The fields of a kind with a serial alone.
-fn of_serial(kind: u8, serial: u32) -> Fields
-    ensures { numbers result ≡ six kind 0 0 0 0 serial }
-{
-    Fields {
-        kind,
-        player: 0,
-        entry: 0,
-        high: 0,
-        value: 0,
-        serial,
+impl From<Step> for Kind {
+    ghost from_gives = { λ x k. code_of k ≡ kind x };
+
+    fn from(step: Step) -> Kind {
+        match step {
+            Step::Assign { .. } => Kind::Assign,
+            Step::Release { .. } => Kind::Release,
+            Step::RequestGuard { .. } => Kind::RequestGuard,
+            Step::Read { .. } => Kind::Read,
+            Step::Write { .. } => Kind::Write,
+            Step::Deliver { .. } => Kind::Deliver,
+            Step::Respond { .. } => Kind::Respond,
+            Step::Abandon { .. } => Kind::Abandon,
+            Step::Lose { .. } => Kind::Lose,
+            Step::Split { .. } => Kind::Split,
+            Step::Merge { .. } => Kind::Merge,
+            Step::RestartTablet { .. } => Kind::RestartTablet,
+            Step::RestartPlayer { .. } => Kind::RestartPlayer,
+            Step::FindInterval { .. } => Kind::FindInterval,
+            Step::Load { .. } => Kind::Load,
+        }
     }
 }
 
-// The fields of a kind with a player, an entry and a value, or some of these.
-fn of_entry(kind: u8, player: u8, entry: u8, value: u32) -> Fields
-    ensures { numbers result ≡ six kind player entry 0 value 0 }
-{
-    Fields {
-        kind,
-        player,
-        entry,
-        high: 0,
-        value,
-        serial: 0,
+impl Kind {
+    /// The map of its records.
+    #[tactic(auto, unfolding(players::specs::Kinds::map_of))]
+    pub fn map(self) -> u8
+        ensures { result ≡ map_of (code_of self) }
+    {
+        match self {
+            Kind::Assign | Kind::RequestGuard => 0x0F,
+            Kind::Release => 0x0D,
+            Kind::Read => 0x07,
+            Kind::Write => 0x17,
+            Kind::Deliver | Kind::Respond | Kind::Abandon | Kind::Lose => 0x21,
+            Kind::Split | Kind::Merge | Kind::RestartTablet | Kind::FindInterval => 0x05,
+            Kind::RestartPlayer => 0x03,
+            Kind::Load => 0x15,
+        }
+    }
+
+    /// The step of this kind whose record stands at the start of the part.
+    #[tactic(auto, unfolding(players::specs::Kinds::step_of, players::specs::Kinds::map_of, crate::specs::Layout::fields))]
+    #[inline(always)]
+    pub(crate) fn step(self, part: &[u8]) -> Step
+        requires { 2 ≤ length part.now }
+        ensures { result ≡ step_of (code_of self) (fields widths (map_of (code_of self)) part.now 1) }
+    {
+        let mut fields = Reader::new(&part[2..]);
+        match self {
+            Kind::Assign => Step::Assign {
+                player: fields.take(),
+                range: Range {
+                    low: fields.take(),
+                    high: fields.take(),
+                },
+            },
+            Kind::Release => Step::Release {
+                range: Range {
+                    low: fields.take(),
+                    high: fields.take(),
+                },
+            },
+            Kind::RequestGuard => Step::RequestGuard {
+                player: fields.take(),
+                range: Range {
+                    low: fields.take(),
+                    high: fields.take(),
+                },
+            },
+            Kind::Read => Step::Read {
+                player: fields.take(),
+                entry: fields.take(),
+            },
+            Kind::Write => Step::Write {
+                player: fields.take(),
+                entry: fields.take(),
+                value: fields.take(),
+            },
+            Kind::Deliver => Step::Deliver {
+                serial: fields.take(),
+            },
+            Kind::Respond => Step::Respond {
+                serial: fields.take(),
+            },
+            Kind::Abandon => Step::Abandon {
+                serial: fields.take(),
+            },
+            Kind::Lose => Step::Lose {
+                serial: fields.take(),
+            },
+            Kind::Split => Step::Split {
+                entry: fields.take(),
+            },
+            Kind::Merge => Step::Merge {
+                entry: fields.take(),
+            },
+            Kind::RestartTablet => Step::RestartTablet {
+                entry: fields.take(),
+            },
+            Kind::RestartPlayer => Step::RestartPlayer {
+                player: fields.take(),
+            },
+            Kind::FindInterval => Step::FindInterval {
+                entry: fields.take(),
+            },
+            Kind::Load => Step::Load {
+                entry: fields.take(),
+                value: fields.take(),
+            },
+        }
     }
 }
 
-// The fields of a step.
-pub fn fields_of(step: Step) -> Fields
-    ensures { numbers result ≡ numbers_of step }
-{
-    match step {
-        Step::Assign { player, range } => ranged(ASSIGN, player, range),
-        Step::Release { range } => ranged(RELEASE, 0, range),
-        Step::RequestGuard { player, range } => ranged(REQUEST_GUARD, player, range),
-        Step::Read { player, entry } => of_entry(READ, player, entry, 0),
-        Step::Write {
-            player,
-            entry,
-            value,
-        } => of_entry(WRITE, player, entry, value),
-        Step::Deliver { serial } => of_serial(DELIVER, serial),
-        Step::Respond { serial } => of_serial(RESPOND, serial),
-        Step::Abandon { serial } => of_serial(ABANDON, serial),
-        Step::Lose { serial } => of_serial(LOSE, serial),
-        Step::Split { entry } => of_entry(SPLIT, 0, entry, 0),
-        Step::Merge { entry } => of_entry(MERGE, 0, entry, 0),
-        Step::RestartTablet { entry } => of_entry(RESTART_TABLET, 0, entry, 0),
-        Step::RestartPlayer { player } => of_entry(RESTART_PLAYER, player, 0, 0),
-        Step::FindInterval { entry } => of_entry(FIND_INTERVAL, 0, entry, 0),
-        Step::Load { entry, value } => of_entry(LOAD, 0, entry, value),
+impl From<Step> for Fields {
+    ghost from_gives = { λ x f. numbers f ≡ numbers_of x };
+
+    #[tactic(auto, unfolding(players::specs::Kinds::spread, players::specs::Kinds::map_of))]
+    fn from(step: Step) -> Fields {
+        let none = Fields {
+            kind: u8::from(Kind::from(step)),
+            ..Fields::default()
+        };
+        match step {
+            Step::Assign { player, range } | Step::RequestGuard { player, range } => Fields {
+                player,
+                entry: range.low,
+                high: range.high,
+                ..none
+            },
+            Step::Release { range } => Fields {
+                entry: range.low,
+                high: range.high,
+                ..none
+            },
+            Step::Read { player, entry } => Fields {
+                player,
+                entry,
+                ..none
+            },
+            Step::Write {
+                player,
+                entry,
+                value,
+            } => Fields {
+                player,
+                entry,
+                value,
+                ..none
+            },
+            Step::Deliver { serial }
+            | Step::Respond { serial }
+            | Step::Abandon { serial }
+            | Step::Lose { serial } => Fields { serial, ..none },
+            Step::Split { entry }
+            | Step::Merge { entry }
+            | Step::RestartTablet { entry }
+            | Step::FindInterval { entry } => Fields { entry, ..none },
+            Step::RestartPlayer { player } => Fields { player, ..none },
+            Step::Load { entry, value } => Fields {
+                entry,
+                value,
+                ..none
+            },
+        }
     }
 }

@@ -1,83 +1,64 @@
-// Records: a bit map, then only the fields whose bit stands.
-ghost use Rattle.std.specs.Prelude.{◌≡◌, ◌%◌, ◌≤◌, ◌<◌, length};
-ghost use Rattle.session.specs.Layout.{record_length};
-ghost use Rattle.session.specs.Fields.{numbers};
-ghost use Rattle.session.specs.Text.{Puts};
+//! Records: a bit map, then only the fields whose bit stands.
+ghost use Rattle.std.specs.Prelude.{◌≡◌, ◌∷◌, ◌++◌, ◌+◌, ◌≤◌, length};
+ghost use Rattle.session.specs.Layout.{widths, field_bytes};
+ghost use Rattle.session.specs.Fields.{standing, numbers};
+ghost use Rattle.session.specs.Decoded.{decoded_of};
+ghost use Rattle.store.specs.Answers.{of_count, as_reply};
 ghost use Rattle.session.specs.Written.{wrote, written};
-ghost use Rattle.session.specs.Records.{map_at, Decodes, record_of, of_numbers, encode};
+ghost use Rattle.session.specs.Records.{Decodes, of_numbers, encode};
 
-use crate::{Decoded, Fields, buffer, codes, kinds, layout, numbers};
+use crate::kinds::Kind;
+use crate::{Fields, buffer, layout, writer};
 use players::Step;
-use store::Reply;
+use store::Refusal;
 
-// The record at the start of the part, whose map has a kind and whose bytes are there.
-fn of_kind(part: &[u8], map: u8, size: usize) -> Decoded
-    requires { (1 ≤ length part.now) × (map ≡ map_at part.now) × (map < 64) × (size ≡ record_length (map_at part.now)) × (size ≤ length part.now) × (map_at part.now % 2 ≡ 1) }
-    ensures { Decodes part.now result }
-{
-    let kind = numbers::byte_at(part, 1);
-    let right = kinds::map_of(kind);
-    if right == kinds::NO_MAP {
-        return Decoded::Refused(codes::UNKNOWN_KIND);
-    }
-    if map == right {
-        Decoded::Record {
-            step: kinds::step_of(kind, part),
-            length: size,
-        }
-    } else {
-        Decoded::Refused(codes::WRONG_FIELDS)
-    }
+/// A step, and the bytes that its record takes.
+#[derive(Clone, Copy, Debug, PartialEq, Eq, Hash)]
+pub struct Record {
+    pub step: Step,
+    pub length: usize,
 }
 
-// The record that stands at the start of the part.
-pub fn decode(part: &[u8]) -> Decoded
-    ensures { Decodes part.now result }
+/// The record that stands at the start of the part. Inlined, as `Kind::step` and `steps::apply` are, so that a run's steps stay in registers:
+/// in memory a step is written in smaller pieces than it is read in, and the run waits for it.
+#[inline(always)]
+pub fn decode(part: &[u8]) -> Result<Record, Refusal>
+    ensures { Decodes part.now (decoded_of result) }
 {
-    if part.len() == 0 {
-        return Decoded::Refused(codes::CUT_SHORT);
+    let map = *part.first().ok_or(Refusal::CutShort)?;
+    if map >= 64 {
+        return Err(Refusal::UnknownField);
     }
-    let map = numbers::byte_at(part, 0);
-    if layout::MAPS_END <= map {
-        return Decoded::Refused(codes::UNKNOWN_FIELD);
+    let length = layout::length_of(map);
+    if part.len() < length {
+        return Err(Refusal::CutShort);
     }
-    let size = layout::length_of(map as usize) as usize;
-    if part.len() < size {
-        return Decoded::Refused(codes::CUT_SHORT);
+    if map % 2 == 0 {
+        return Err(Refusal::WrongFields);
     }
-    if map % 2 != 1 {
-        return Decoded::Refused(codes::WRONG_FIELDS);
+    let kind = Kind::try_from(part[1])?;
+    if map != kind.map() {
+        return Err(Refusal::WrongFields);
     }
-    of_kind(part, map, size)
+    Ok(Record {
+        step: kind.step(part),
+        length,
+    })
 }
 
-// Puts the record of these fields, without those that the kind lacks, at the start of a line, and gives its length.
-fn put(line: &mut [u8], f: Fields) -> usize
-    requires { 14 ≤ length line.old }
-    ensures { Puts (record_of (numbers f)) 14 0 line.old line.new result }
+/// The step of the kind with these fields, those that it lacks passed over: what its record reads as, or 26.
+pub fn of_fields(fields: Fields) -> Result<Record, Refusal>
+    ensures { decoded_of result ≡ of_numbers (numbers fields) }
 {
-    let map = kinds::map_of(f.kind);
-    numbers::put_record(line, map, f)
+    let kind = Kind::try_from(fields.kind)?;
+    let record = writer::record_of(kind.map(), fields);
+    decode(record.as_slice())
 }
 
-// The step of the kind with these fields, those that it lacks passed over: what its record reads as, or 26.
-pub fn of_fields(f: Fields) -> Decoded
-    ensures { result ≡ of_numbers (numbers f) }
+/// Writes the record of a step to the start of the buffer, and gives its length; 36 where the buffer is shorter.
+pub fn encode(step: Step, out: &mut [u8]) -> Result<u32, Refusal>
+    ensures { wrote (as_reply of_count result) out.new ≡ written (encode step) out.old }
 {
-    if kinds::map_of(f.kind) == kinds::NO_MAP {
-        return Decoded::Refused(codes::UNKNOWN_KIND);
-    }
-    let mut line = [0u8; layout::LONGEST];
-    let n = put(&mut line, f);
-    decode(&line[..n])
-}
-
-// Writes the record of a step to the start of the buffer: 0 and its length, or 36 where the buffer is shorter.
-pub fn encode(step: Step, out: &mut [u8]) -> Reply
-    ensures { wrote result out.new ≡ written (encode step) out.old }
-{
-    let f = kinds::fields_of(step);
-    let mut line = [0u8; layout::LONGEST];
-    let n = put(&mut line, f);
-    buffer::write(&line[..n], out)
+    let record = writer::record_of(Kind::from(step).map(), Fields::from(step));
+    buffer::write(record.as_slice(), out)
 }

@@ -1,71 +1,34 @@
-// Text, put into a line from a place on. Each function gives the place after it.
-ghost use Rattle.std.specs.Prelude.{◌≡◌, [], ◌∷◌, ◌+◌, ◌^◌, ◌≤◌, ◌<◌, length};
-ghost use Rattle.session.specs.Listing.{space, decimal, three};
-ghost use Rattle.session.specs.Text.{Puts, last_digit};
+//! The text of a line, with no heap. Digits are `itoa`'s: `write!` promises nothing of its success, and a line is promised wherever it fits.
+ghost use Rattle.std.specs.Prelude.{◌≡◌, ◌++◌, ◌+◌, ◌≤◌, length};
+ghost use Rattle.session.specs.Listing.{decimal, three};
 
-// The powers of ten.
-const POWERS: [u32; 10] = [
-    1, 10, 100, 1000, 10000, 100000, 1000000, 10000000, 100000000, 1000000000,
-];
+use crate::writer;
+use arrayvec::ArrayVec;
+use itoa::Buffer;
 
-// A power of ten.
-fn power(e: usize) -> u32
-    requires { e < 10 }
-    ensures { (result ≡ 10 ^ e) × (1 ≤ result) }
+/// A line of a listing: four numbers of ten digits, three spaces and the line's end.
+pub(crate) type Line = ArrayVec<u8, 44>;
+
+/// Appends a number in decimal digits.
+pub(crate) fn decimal(line: &mut Line, n: u32)
+    requires { length line.old.items + 10 ≤ 44 }
+    ensures text { line.new.items ≡ line.old.items ++ decimal n }
+    ensures room { length line.new.items ≤ length line.old.items + 10 }
 {
-    POWERS[e]
+    let mut digits = Buffer::new();
+    writer::append(line, digits.format(n).as_bytes());
 }
 
-// One byte.
-pub(crate) fn byte(line: &mut [u8], at: usize, b: u8) -> usize
-    requires { at < length line.old }
-    ensures { Puts (b ∷ []) 1 at line.old line.new result }
+/// Appends three numbers, each after a space, and the line's end.
+pub(crate) fn three(line: &mut Line, a: u32, b: u32, c: u32)
+    requires { length line.old.items + 34 ≤ 44 }
+    ensures text { line.new.items ≡ line.old.items ++ three a b c }
 {
-    line[at] = b;
-    at + 1
-}
-
-// The last digit of a number, and nothing of 0.
-fn digit(line: &mut [u8], at: usize, n: u32) -> usize
-    requires { at < length line.old }
-    ensures { Puts (last_digit n) 1 at line.old line.new result }
-{
-    if n == 0 {
-        return at;
-    }
-    byte(line, at, 48 + (n % 10) as u8)
-}
-
-// A number in decimal digits.
-pub(crate) fn decimal(line: &mut [u8], at: usize, n: u32) -> usize
-    requires { at + 10 ≤ length line.old }
-    ensures { Puts (decimal n) 10 at line.old line.new result }
-{
-    let mut place = at;
-    let mut e = 10;
-    while e > 1 {
-        e -= 1;
-        place = digit(line, place, n / power(e));
-    }
-    byte(line, place, 48 + (n % 10) as u8)
-}
-
-// A number after a space.
-fn spaced(line: &mut [u8], at: usize, n: u32) -> usize
-    requires { at + 11 ≤ length line.old }
-    ensures { Puts (space ∷ decimal n) 11 at line.old line.new result }
-{
-    let place = byte(line, at, b' ');
-    decimal(line, place, n)
-}
-
-// Three numbers, each after a space, and the line's end.
-pub(crate) fn three(line: &mut [u8], at: usize, a: u32, b: u32, c: u32) -> usize
-    requires { at + 34 ≤ length line.old }
-    ensures { Puts (three a b c) 34 at line.old line.new result }
-{
-    let first = spaced(line, at, a);
-    let second = spaced(line, first, b);
-    let third = spaced(line, second, c);
-    byte(line, third, b'\n')
+    line.push(b' ');
+    decimal(line, a);
+    line.push(b' ');
+    decimal(line, b);
+    line.push(b' ');
+    decimal(line, c);
+    line.push(b'\n');
 }

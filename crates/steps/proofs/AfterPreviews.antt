@@ -15,7 +15,7 @@ use Rattle.players.specs.declared.Step.{Step}
 use Rattle.players.specs.Table.{state_of, valid}
 use Rattle.players.specs.Calls.{Done, left, whole}
 use Rattle.players.specs.Played.{taken}
-use Rattle.session.specs.declared.Report.{Report}
+use Rattle.session.specs.Reports.{Report}
 use Rattle.session.specs.Mark.{mark, marked}
 use Rattle.session.specs.Runs.{report, Run, allowed, run_marked, longest, too_long, no_mark, preview_records, preview_budget, whole_places, words, filled}
 use Rattle.steps.specs.RunCalls.{Finished, finished, encoded, ran}

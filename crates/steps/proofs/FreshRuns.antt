@@ -16,8 +16,7 @@ use Rattle.players.specs.Table.{players_words, table_of, valid}
 use Rattle.players.specs.Calls.{whole}
 use Rattle.players.proofs.Tables.{length_of, state_table, ok_fresh}
 use Rattle.players.proofs.CallLaws.{fresh-valid}
-use Rattle.session.specs.declared.Decoded.{Decoded}
-use Rattle.session.specs.declared.Decoded.TheVariants.{Record, Refused}
+use Rattle.session.specs.Decoded.{Decoded, Record, Refused}
 use Rattle.session.specs.Records.{decode}
 use Rattle.session.specs.Mark.{mark, marked}
 use Rattle.session.specs.Runs.{Run, at_end, no_mark, too_long, stopped, took, on_record, run_from, allowed, run, longest, whole_places}

@@ -9,12 +9,12 @@ use native.Mathlib.Nat.{add-suc, le_of_lt}
 use native.Mathlib.Omega.{arith}
 use lib.Dec.{leb, eqb}
 use lib.ListN.{length, get_or, take, drop, length-map}
-use mir.Syntax.{w32, w64}
+use mir.Syntax.{w32}
 use mir.Val.{Fits}
 use borrow.Author.Rules.{Fits-under}
 use borrow.Rule.Slice.PartMut.{put_mid}
-use borrow.Author.Tests.{eq-eqb, ne_eqb, le-leb, lt-leb, lt-ltb, le-ltb, not-true, not-false}
-use Rattle.store.specs.Model.{open_guard}
+use borrow.Author.Tests.{eq-eqb, ne_eqb, le-leb, lt-leb, lt-ltb, not-true, not-false}
+use Rattle.store.specs.Model.{bad_range, open_guard}
 use Rattle.store.specs.declared.Range.{Range}
 use Rattle.store.specs.declared.Reply.{Reply}
 use Rattle.requests.specs.declared.Request.{Request}
@@ -57,19 +57,6 @@ has_last h = omega arith
 -- and that of its last request
 pub has_requests : {n : ℕ} → n ≡ players_words → 9473 ≤ n
 has_requests h = omega arith
-
--- a player that is not above the last is one
-pub is_player : (p : ℕ) → p ≤ 7 → p < 8
-is_player p h = omega arith
-
--- the cell of an entry, in a player's row
-pub record Cell (p e : ℕ) : Type 0 where
-  pub row : Fits w64 (p * 256)
-  pub index : Fits w64 (p * 256 + e)
-  pub inside : p * 256 + e < 2048
-
-pub cell_of : (p e : ℕ) → p < 8 → e < 256 → Cell p e
-cell_of p e a b = record { row = record { fits = omega arith }; index = record { fits = omega arith }; inside = omega arith }
 
 -- ---- 4 read
 
@@ -248,39 +235,17 @@ module _ (t : List ℕ) (l : length t ≡ players_words) (p : ℕ) (g : Range) w
   request_player h r er = refused a t l 28 r er (λ s _ _. rw (le-leb 8 p h))
 
   module _ (hp : p < 8) where
-    pub request_empty : g.high ≤ g.low → (r : Reply) → r ≡ refusal 28 → Moves a t r t
-    request_empty h r er = refused a t l 28 r er (λ s _ _. rw (lt-leb 8 p hp, le-ltb g.low g.high h))
+    pub request_bad : bad_range g ≡ true → (r : Reply) → r ≡ refusal 28 → Moves a t r t
+    request_bad h r er = refused a t l 28 r er (λ s _ _. rw (lt-leb 8 p hp, h))
 
     module _ (hl : g.low < g.high) where
-      pub request_high : 256 < g.high → (r : Reply) → r ≡ refusal 28 → Moves a t r t
-      request_high h r er = refused a t l 28 r er (λ s _ _. rw (lt-leb 8 p hp, lt-ltb g.low g.high hl, lt-leb g.high 256 h))
-
       module _ (hh : g.high ≤ 256) where
-        owns_is : (s : State) → t ≡ table_of s → (b : Bool) → b ≡ all_are p (1 + g.low) (1 + g.high - (1 + g.low)) t → all_entries (owns s p) g.low g.high ≡ b
+        owns_is : (s : State) → t ≡ table_of s → (b : Bool) → b ≡ all_are p (1 + g.low) (g.high - g.low) t → all_entries (owns s p) g.low g.high ≡ b
         owns_is s y b eb =
-            let n : 1 + g.high - (1 + g.low) ≡ g.high - g.low = omega arith in
-            sym (eb ∙ rw (n, y) (owned_words s p g.low (g.high - g.low) (omega arith)))
+            sym (eb ∙ rw y (owned_words s p g.low (g.high - g.low) (omega arith)))
 
-        pub request_owner : false ≡ all_are p (1 + g.low) (1 + g.high - (1 + g.low)) t → (r : Reply) → r ≡ refusal 29 → Moves a t r t
+        pub request_owner : false ≡ all_are p (1 + g.low) (g.high - g.low) t → (r : Reply) → r ≡ refusal 29 → Moves a t r t
         request_owner b r er = refused a t l 29 r er (λ s o y. rw (lt-leb 8 p hp, lt-ltb g.low g.high hl, le-leb g.high 256 hh, owns_is s y false b))
-
--- the cells of a range of entries, in a player's row
-pub record Cells (p lo hi : ℕ) : Type 0 where
-  pub row : Fits w64 (p * 256)
-  pub first : Fits w64 (p * 256 + lo)
-  pub last : Fits w64 (p * 256 + hi)
-  pub ordered : p * 256 + lo ≤ p * 256 + hi
-  pub inside : p * 256 + hi ≤ 2048
-
-pub cells_of : (p lo hi : ℕ) → p < 8 → lo < hi → hi ≤ 256 → Cells p lo hi
-cells_of p lo hi a b c =
-    record {
-      row = record { fits = omega arith };
-      first = record { fits = omega arith };
-      last = record { fits = omega arith };
-      ordered = omega arith;
-      inside = omega arith;
-    }
 
 -- a request that is asked for a range of entries, all of the player's
 pub record Asks (t : List ℕ) (p : ℕ) (g : Range) : Type 0 where
@@ -288,7 +253,7 @@ pub record Asks (t : List ℕ) (p : ℕ) (g : Range) : Type 0 where
   pub player : p < 8
   pub some : g.low < g.high
   pub within : g.high ≤ 256
-  pub own : true ≡ all_are p (1 + g.low) (1 + g.high - (1 + g.low)) t
+  pub own : true ≡ all_are p (1 + g.low) (g.high - g.low) t
 
 module _ {t : List ℕ} {p : ℕ} {g : Range} (k : Asks t p g) {x : Scan} (ex : x ≡ scanned (requesting p g) (take 768 (drop 8705 t))) where
   abbrev asked : State → Result

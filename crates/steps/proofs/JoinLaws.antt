@@ -1,9 +1,10 @@
 -- From what a step does to its own table, or to both, to what a call on both tables does.
 -- Assumes nothing.
 use mathlib.Core.Path.{◌≡◌, sym, ap, ◌∙◌}
-use mathlib.Core.Bool.{true, false}
+use mathlib.Core.Bool.{true, false, and-false}
 use mathlib.Core.List.{List}
 use Prim.Native.Nat.{ℕ}
+use lib.Dec.{eqb}
 use lib.ListN.{length}
 use borrow.Author.Tests.{eq-eqb, ne_eqb}
 use Rattle.store.specs.declared.Reply.{Reply}
@@ -52,5 +53,5 @@ module _ (st t : List ℕ) where
   pub store_wrong : (length st ≡ 1280 → ⊥) → whole st t ≡ false
   store_wrong h = rw (ne_eqb (length st) 1280 h)
 
-  pub players_wrong : length st ≡ 1280 → (length t ≡ players_words → ⊥) → whole st t ≡ false
-  players_wrong h k = rw (eq-eqb (length st) 1280 h, ne_eqb (length t) players_words k)
+  pub players_wrong : (length t ≡ players_words → ⊥) → whole st t ≡ false
+  players_wrong h = rw (ne_eqb (length t) players_words h) (and-false (eqb (length st) 1280))

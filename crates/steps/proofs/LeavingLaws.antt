@@ -1,10 +1,9 @@
 -- Steps 8, 9 and 13, and all steps that name a request: what they do to a state, and what their code does to a table.
 -- Assumes nothing.
-use mathlib.Core.Path.{◌≡◌, refl, sym, ap, ◌∙◌}
+use mathlib.Core.Path.{◌≡◌, refl, ap, ◌∙◌}
 use mathlib.Core.Bool.{Bool, true, false, cond}
 use mathlib.Core.List.{List}
 use Prim.Native.Nat.{ℕ, ◌+◌, ◌*◌, ◌<◌}
-use native.Mathlib.Nat.{add-zero}
 use native.Mathlib.Omega.{arith}
 use lib.ListN.{length, take, drop}
 use borrow.Author.Tests.{eq-eqb, ne_eqb, le-leb, lt-leb}
@@ -13,10 +12,9 @@ use Rattle.store.specs.declared.Reply.{Reply}
 use Rattle.requests.specs.declared.Request.{Request}
 use Rattle.requests.specs.declared.Fit.{Fit}
 use Rattle.requests.specs.declared.Fit.TheVariants.{Pending, Abandoned}
-use Rattle.requests.specs.declared.Found.TheVariants.{At, Nowhere}
 use Rattle.requests.specs.Model.{loader, drop_request, change_request, mark_abandoned}
 use Rattle.requests.specs.Region.{region_of}
-use Rattle.requests.specs.Calls.{found, with_abandoned, without, restarted}
+use Rattle.requests.specs.Calls.{At, Nowhere, found, with_abandoned, without, restarted}
 use Rattle.requests.proofs.Rising.{each_at}
 use Rattle.requests.proofs.RequestRules.{form_of}
 use Rattle.requests.proofs.RegionLaws.{Stands, stands_in, nowhere_region, found_stands, found_region, without_region, abandoned_region, given_up, restarted_region}
@@ -118,14 +116,14 @@ module _ (t : List ℕ) (l : length t ≡ players_words) (p : ℕ) where
   pub restart_refused : 7 < p → (r : Reply) → r ≡ refusal 28 → Moves (λ s. step s (RestartPlayer p)) t r t
   restart_refused h r er = refused (λ s. step s (RestartPlayer p)) t l 28 r er (λ s _ _. rw (le-leb 8 p h))
 
-  pub restart_moves : p < 8 → (t₁ : List ℕ) → t₁ ≡ cleared (p * 256) (p * 256 + 256) t → (c : List ℕ) → c ≡ restarted p (take 768 (drop 8705 t₁)) → (r : Reply) → r ≡ refusal 0
+  pub restart_moves : p < 8 → (t₁ : List ℕ) → t₁ ≡ cleared (p * 256 + 0) (p * 256 + 256) t → (c : List ℕ) → c ≡ restarted p (take 768 (drop 8705 t₁)) → (r : Reply) → r ≡ refusal 0
       → Moves (λ s. step s (RestartPlayer p)) t r (put_mid 8705 768 t₁ c)
   restart_moves hp t₁ e₁ c ec r er =
       moves (λ s. step s (RestartPlayer p)) t l r _
       (λ s o y.
       let s₁ = with_player s p fresh_player in
       let y₁ : t₁ ≡ table_of s₁ =
-      e₁ ∙ ap (λ (i : ℕ). cleared i (p * 256 + 256) t) (sym (add-zero (p * 256))) ∙ ap (cleared (p * 256 + 0) (p * 256 + 256)) y
+      e₁ ∙ ap (cleared (p * 256 + 0) (p * 256 + 256)) y
       ∙ cleared_put s p hp 0 256 (omega arith) (omega arith) fresh_player (λ x h. rw (within_in 0 256 x (omega arith) h)) (λ x h. rw (within_in 0 256 x (omega arith) h)) in
       let d : step s (RestartPlayer p) ≡ restart_player s p = rw (lt-leb 8 p hp) in
       let c_is : c ≡ region_of (given_up p s.requests) = ec ∙ ap (λ (u : List ℕ). restarted p (take 768 (drop 8705 u))) y₁ ∙ ap (restarted p) (part_of s₁) ∙ restarted_region s.last s.requests (few_requests o) o.requests p in

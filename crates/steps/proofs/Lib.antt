@@ -6,6 +6,7 @@ pub mod TableLaws
 pub mod StateLaws
 pub mod DropLaws
 pub mod MoveLaws
+pub mod AnswerLaws
 pub mod OwnershipLaws
 pub mod IssuingLaws
 pub mod LeavingLaws

@@ -68,7 +68,7 @@ module _ {t : List ℕ} {s : State} (o : Ok s) (e : t ≡ table_of s) where
     module _ (p : ℕ) {full : Bool} (ef : full ≡ turned_away (count_in r.counts) p) where
       pub full_is : (b : Bool) → full ≡ b → no_place p s.requests ≡ b
       full_is b eb =
-          sym (turned_counted s.requests (few_requests o) p) ∙ ap (λ (y : Scan). turned_away (count_in y.counts) p) (sym scan_is) ∙ sym ef ∙ eb
+          sym (turned_counted s.requests p) ∙ ap (λ (y : Scan). turned_away (count_in y.counts) p) (sym scan_is) ∙ sym ef ∙ eb
 
       pub room_is : full ≡ false → p ≤ loader → length s.requests < places
       room_is eb h = place_free o p h (full_is false eb)

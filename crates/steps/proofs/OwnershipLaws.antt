@@ -1,12 +1,14 @@
 -- Steps 1 and 2: owners set over a range.
 -- Assumes nothing.
 use mathlib.Core.Path.{◌≡◌, ap, ◌∙◌}
+use mathlib.Core.Bool.{true}
 use mathlib.Core.List.{List}
 use Prim.Native.Nat.{ℕ, ◌+◌, ◌-◌, ◌≤◌, ◌<◌}
 use native.Mathlib.Omega.{arith}
 use lib.ListN.{length, get_or, take, drop, set, replicate, length-set}
-use borrow.Author.Tests.{le-leb, lt-leb, lt-ltb, le-ltb}
+use borrow.Author.Tests.{le-leb, lt-leb, lt-ltb}
 use borrow.Rule.Slice.PartMut.{put_mid}
+use Rattle.store.specs.Model.{bad_range}
 use Rattle.store.specs.declared.Range.{Range}
 use Rattle.store.specs.declared.Reply.{Reply}
 use Rattle.players.specs.declared.Step.TheVariants.{Assign}
@@ -19,13 +21,10 @@ use Rattle.steps.proofs.MoveLaws.{moves, refused, same_step, last_is}
 use Rattle.players.specs.Table.{players_words}
 
 module _ (t : List ℕ) (l : length t ≡ players_words) (p : ℕ) (g : Range) where
-  pub own_empty : g.high ≤ g.low → (r : Reply) → r ≡ refusal 28 → Moves (own p g) t r t
-  own_empty h r e = refused (own p g) t l 28 r e (λ s _ _. rw (le-ltb g.low g.high h))
+  pub own_bad : bad_range g ≡ true → (r : Reply) → r ≡ refusal 28 → Moves (own p g) t r t
+  own_bad h r e = refused (own p g) t l 28 r e (λ s _ _. rw h)
 
   module _ (a : g.low < g.high) where
-    pub own_high : 256 < g.high → (r : Reply) → r ≡ refusal 28 → Moves (own p g) t r t
-    own_high h r e = refused (own p g) t l 28 r e (λ s _ _. rw (lt-ltb g.low g.high a, lt-leb g.high 256 h))
-
     module _ (h : g.high ≤ 256) where
       pub own_spent : 4000000 ≤ get_or t 0 0 → (r : Reply) → r ≡ refusal 34 → Moves (own p g) t r t
       own_spent k r e =
@@ -35,10 +34,7 @@ module _ (t : List ℕ) (l : length t ≡ players_words) (p : ℕ) (g : Range) w
           rw (lt-ltb g.low g.high a, le-leb g.high 256 h, le-leb 4000000 s.last (omega arith)))
 
       -- the parts that are filled
-      module _ (k : get_or t 0 0 < 4000000) (z₁ z₂ : List ℕ) where
-        abbrev n : ℕ
-        n = get_or t 0 0 + 1
-
+      module _ (k : get_or t 0 0 < 4000000) (n : ℕ) (en : n ≡ get_or t 0 0 + 1) (z₁ z₂ : List ℕ) where
         abbrev u₁ : List ℕ
         u₁ = put_mid (1 + g.low) (1 + g.high - (1 + g.low)) (set t 0 n) z₁
 
@@ -58,7 +54,7 @@ module _ (t : List ℕ) (l : length t ≡ players_words) (p : ℕ) (g : Range) w
             let m = last_is o y in
             let d : own p g s ≡ set_owner s p g = rw (lt-ltb lo hi a, le-leb hi 256 h, lt-leb 4000000 s.last (omega arith)) in
             rw d
-            (er ∙ ap (λ (i : ℕ). issued (i + 1)) m, f₂ ∙ ap (λ (u : List ℕ). filled 257 lo hi n (filled 1 lo hi p (set u 0 n))) y ∙ owners_put s p n g (ap (λ (i : ℕ). i + 1) m) (omega arith) h))
+            (er ∙ ap issued (en ∙ ap (λ (i : ℕ). i + 1) m), f₂ ∙ ap (λ (u : List ℕ). filled 257 lo hi n (filled 1 lo hi p (set u 0 n))) y ∙ owners_put s p n g (en ∙ ap (λ (i : ℕ). i + 1) m) (omega arith) h))
 
   pub assign_player : 7 < p → (r : Reply) → r ≡ refusal 28 → Moves (λ s. step s (Assign p g)) t r t
   assign_player h r e = refused (λ s. step s (Assign p g)) t l 28 r e (λ s _ _. rw (le-leb 8 p h))

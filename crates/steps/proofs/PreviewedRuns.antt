@@ -13,8 +13,7 @@ use Rattle.store.specs.declared.Reply.{Reply}
 use Rattle.players.specs.Rules.{State, step}
 use Rattle.players.specs.Table.{state_of, valid}
 use Rattle.players.specs.Calls.{whole}
-use Rattle.session.specs.declared.Decoded.{Decoded}
-use Rattle.session.specs.declared.Decoded.TheVariants.{Record, Refused}
+use Rattle.session.specs.Decoded.{Decoded, Record, Refused}
 use Rattle.session.specs.Records.{decode}
 use Rattle.session.specs.Mark.{mark, marked}
 use Rattle.session.specs.Runs.{report, Run, at_end, spent, stopped, took, on_record, run_from, allowed, run, longest, too_long, no_mark, preview_records, preview_budget, whole_places, filled}

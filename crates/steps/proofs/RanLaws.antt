@@ -1,16 +1,16 @@
 -- The ways a run's call ends.
 -- Assumes nothing.
-use mathlib.Core.Path.{◌≡◌, ◌∙◌, refl, ap}
+use mathlib.Core.Path.{◌≡◌, refl, ap}
 use mathlib.Core.Bool.{Bool, true, false, cond}
 use mathlib.Core.List.{List}
-use Prim.Native.Nat.{ℕ, ◌≤◌, ◌<◌}
+use Prim.Native.Nat.{ℕ, ◌≤◌}
 use native.Mathlib.Omega.{arith}
 use lib.Dec.{leb, ltb}
 use lib.ListN.{length}
-use borrow.Author.Tests.{leb-true, leb-false, lt-ltb, le-ltb}
+use borrow.Author.Tests.{leb-true, leb-false, le-ltb}
 use Rattle.store.specs.Table.{table_of as store_table}
 use Rattle.store.specs.declared.Reply.{Reply}
-use Rattle.players.specs.Replies.{refusal, done}
+use Rattle.players.specs.Replies.{refusal}
 use Rattle.players.specs.Rules.{State}
 use Rattle.players.specs.Table.{state_of, table_of, valid}
 use Rattle.players.specs.Calls.{whole, Done, checked}
@@ -30,42 +30,27 @@ allowed_few budget places = by (leb budget places) refl
     by true e = (omega arith, leb-true budget places e)
     by false e = let h = leb-false budget places e in (omega arith, omega arith)
 
--- a table is refused: by both tests
-not_both : (a b : Bool) (list st t : List ℕ) (d : Finished) → ((cond a (cond b done (refusal 22)) (refusal 21)).code ≡ 0 → ⊥)
-    → finished (report (cond a (cond b done (refusal 22)) (refusal 21)).code 0 0) list st t
-    ≡ cond a (cond b d (finished (report 22 0 0) list st t)) (finished (report 21 0 0) list st t)
-not_both true true list st t d h = absurd (h refl)
-not_both true false list st t d h = refl
-not_both false b list st t d h = refl
+-- what the tests of a run that is not refused have shown
+pub ready : (st t session : List ℕ) (budget : ℕ) (list : List ℕ) (r : Reply) → r ≡ checked st t → r.code ≡ 0 → length session ≤ longest → marked session ≡ true
+    → (left : ℕ) → left ≡ allowed budget (whole_places list) → budget ≤ 4294967295 → Ready st t session left list
+ready st t session budget list r e z short m left h k =
+    let p = passed st t r e z in
+    let f = allowed_few budget (whole_places list) in
+    record {
+      lengths = p.0;
+      keeps = rw p.1 tt;
+      marked = take_whole (length mark) session mark (begins-take mark session m) refl;
+      short = short;
+      room = omega (arith, f.1);
+      few = omega (arith, f.0);
+    }
 
-module _ (st t session : List ℕ) (budget : ℕ) (list : List ℕ) (r : Reply) (e : r ≡ checked st t) where
-  pub tables_refused : (r.code ≡ 0 → ⊥) → finished (report r.code 0 0) list st t ≡ ran st t session budget list
-  tables_refused h = rw e (not_both (whole st t) (valid st t) list st t _ (λ x. h (ap (λ (y : Reply). y.code) e ∙ x)))
-
-  module _ (z : r.code ≡ 0) where
-    pub length_refused : longest < length session → finished (report too_long 0 0) list st t ≡ ran st t session budget list
-    length_refused h = let p = passed st t r e z in rw (p.0, p.1, lt-ltb longest (length session) h)
-
-    module _ (short : length session ≤ longest) where
-      pub mark_refused : marked session ≡ false → finished (report no_mark 0 0) list st t ≡ ran st t session budget list
-      mark_refused m = let p = passed st t r e z in rw (p.0, p.1, le-ltb longest (length session) short, m)
-
-      module _ (m : marked session ≡ true) where
-        pub ready : (left : ℕ) → left ≡ allowed budget (whole_places list) → budget ≤ 4294967295 → Ready st t session left list
-        ready left h k =
-            let p = passed st t r e z in
-            let f = allowed_few budget (whole_places list) in
-            record {
-              lengths = p.0;
-              keeps = rw p.1 tt;
-              marked = take_whole (length mark) session mark (begins-take mark session m) refl;
-              short = short;
-              room = omega (arith, f.1);
-              few = omega (arith, f.0);
-            }
-
-        pub all_taken : (x : Finished) → x ≡ encoded list (run_marked (state_of st t) session budget (whole_places list)) → x ≡ ran st t session budget list
-        all_taken x h = let p = passed st t r e z in rw (p.0, p.1, le-ltb longest (length session) short, m) h
+-- and what it gives
+pub all_taken : (st t session : List ℕ) (budget : ℕ) (list : List ℕ) (r : Reply) → r ≡ checked st t → r.code ≡ 0 → length session ≤ longest → marked session ≡ true
+    → (x : Finished) → x ≡ encoded list (run_marked (state_of st t) session budget (whole_places list)) → x ≡ ran st t session budget list
+all_taken st t session budget list r e z short m x h =
+    let p = passed st t r e z in
+    rw (p.0, p.1, le-ltb longest (length session) short, m) h
 
 -- on tables that keep the rules, what is left is what the run of their state leaves
 pub ran-run : (st t session : List ℕ) (budget : ℕ) (list : List ℕ) → whole st t ≡ true → valid st t ≡ true

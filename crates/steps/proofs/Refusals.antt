@@ -16,8 +16,7 @@ use Rattle.players.specs.Rules.{State, step}
 use Rattle.players.specs.Table.{state_of, valid}
 use Rattle.players.specs.Calls.{Done, whole}
 use Rattle.players.proofs.Refusals.{step_keeps}
-use Rattle.session.specs.declared.Decoded.{Decoded}
-use Rattle.session.specs.declared.Decoded.TheVariants.{Record, Refused}
+use Rattle.session.specs.Decoded.{Decoded, Record, Refused}
 use Rattle.session.specs.Records.{cut_short, wrong_fields, decode}
 use Rattle.session.specs.Mark.{marked, mark}
 use Rattle.session.specs.Runs.{report, Run, at_end, spent, stopped, took, on_record, run_from, allowed, longest, too_long, no_mark, preview_budget, whole_places}

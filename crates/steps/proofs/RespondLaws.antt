@@ -7,18 +7,20 @@ use mathlib.Core.List.{List}
 use Prim.Native.Nat.{ℕ, zero, suc, ◌+◌, ◌-◌, ◌*◌, ◌≤◌, ◌<◌}
 use native.Mathlib.Numerals.{add-one}
 use native.Mathlib.Omega.{arith}
-use lib.Dec.{T, leb, eqb, ltb}
+use lib.Dec.{T, eqb, ltb}
 use lib.ListN.{length, get_or, take, drop}
-use borrow.Author.Tests.{eq-eqb, ne_eqb, eqb-true, eqb-false, le-leb, lt-leb, lt-ltb, le-ltb, leb-true, ltb-true}
+use borrow.Author.Tests.{eq-eqb, ne_eqb, eqb-true, eqb-false, le-leb, lt-ltb, le-ltb}
 use borrow.Rule.Slice.PartMut.{put_mid}
+use Rattle.std.specs.Prelude.{Err}
+use Rattle.store.specs.Answers.{entries_of}
 use Rattle.store.specs.declared.Reply.{Reply}
+use Rattle.store.specs.declared.refusal.Refusal.{Refusal}
 use Rattle.requests.specs.declared.Request.{Request}
 use Rattle.requests.specs.declared.Fit.TheVariants.{Answerable}
-use Rattle.requests.specs.declared.Found.TheVariants.{At}
 use Rattle.requests.specs.Model.{loader, is_guard_request, is_load}
 use Rattle.requests.specs.Region.{fields_hold}
-use Rattle.requests.specs.Calls.{found, without}
-use Rattle.requests.proofs.Basics.{decide, both_left, both_right}
+use Rattle.requests.specs.Calls.{At, found, without}
+use Rattle.requests.proofs.Basics.{decide, clash}
 use Rattle.requests.proofs.Rising.{each_at}
 use Rattle.requests.proofs.RequestRules.{guard_request_range, entry_low, load_fields, form_of}
 use Rattle.requests.proofs.RegionLaws.{stands_in}
@@ -27,7 +29,8 @@ use Rattle.players.specs.Replies.{granted as grants, not_held, layout_changed, s
 use Rattle.players.specs.Rules.{Cached, State, removed, every, owns, live, may_cache, with_cached, cache, still_owned, respond_guard_request, respond_read, respond_write, respond, step}
 use Rattle.players.specs.Table.{players_words, table_of}
 use Rattle.steps.specs.InnerWords.{Moves, live_guard, counted_table, caching, filled, dropped}
-use Rattle.steps.specs.InnerRespond.{Responds, write_reply, owning, still_owning, cacheable, remembering}
+use Rattle.steps.specs.InnerRespond.{Responds, write_reply, owning, cacheable, remembering}
+use Rattle.steps.proofs.AnswerLaws.{bad_entries}
 use Rattle.steps.proofs.StateLaws.{owner_word, epoch_word, live_state, counted_state, granted, cached_put}
 use Rattle.steps.proofs.LeavingLaws.{fit_moves, removed_put}
 use Rattle.steps.proofs.DropLaws.{dropped-put}
@@ -56,27 +59,6 @@ module _ (p n : ℕ) (t : List ℕ) (e hi : ℕ) where
   own_end h =
       let z : hi - e ≡ 0 = omega arith in
       rw z
-
-not-not : (b : Bool) → not (not b) ≡ b
-not-not true = refl
-not-not false = refl
-
-module _ (p lo hi n : ℕ) (t : List ℕ) where
-  pub own_none : hi ≤ lo → false ≡ still_owning p lo hi n t
-  own_none h = rw (le-ltb lo hi h)
-
-  module _ (h : lo < hi) where
-    pub own_beyond : 256 < hi → false ≡ still_owning p lo hi n t
-    own_beyond k = rw (lt-ltb lo hi h, lt-leb hi 256 k)
-
-    pub own_range : hi ≤ 256 → owning p n lo (hi - lo) t ≡ still_owning p lo hi n t
-    own_range k = rw (lt-ltb lo hi h, le-leb hi 256 k)
-
-  -- only a range is owned still, in any table
-  pub owned_range : true ≡ still_owning p lo hi n t → (lo < hi) × (hi ≤ 256)
-  owned_range e =
-      let a : (ltb lo hi && leb hi 256) ≡ true = sym (not-not (ltb lo hi && leb hi 256)) ∙ both_left _ (owning p n lo (hi - lo) t) (sym e) in
-      (ltb-true lo hi (both_left (ltb lo hi) (leb hi 256) a), leb-true hi 256 (both_right (ltb lo hi) (leb hi 256) a))
 
 -- ---- what is remembered: the words
 
@@ -188,36 +170,47 @@ module _ (r : Request) (hp : r.player < 8) where
 
 -- ---- guard request
 
-module _ (r : Request) (hp : r.player < 8) (g : r.kind ≡ 3) (t : List ℕ) (b : Bool) (eb : b ≡ still_owning r.player r.low r.high r.serial t) where
+module _ (r : Request) (hp : r.player < 8) (g : r.kind ≡ 3) (t : List ℕ) where
   range : T (fields_hold r) → (r.low < r.high) × (r.high ≤ 256)
   range k = guard_request_range r (eq-eqb r.kind 3 g) k
 
-  owned_is : (s : State) → T (fields_hold r) → t ≡ table_of (removed s r) → still_owned s r ≡ b
-  owned_is s k y =
-      let h = (range k).0 in
-      let i = (range k).1 in
-      sym
-      (eb ∙ sym (own_range r.player r.low r.high r.serial t h i)
-      ∙ ap (owning r.player r.serial r.low (r.high - r.low)) y
-      ∙ owning_state (removed s r) r.player r.serial r.low (r.high - r.low) (omega arith))
+  -- the range of a guard request is one
+  pub guard_range : (x : Refusal) → entries_of (record { low = r.low; high = r.high }) ≡ Err x → Responds respond_guard_request r t (not_held r.serial) t
+  guard_range x e =
+      record {
+        responded =
+            λ s k _ _.
+            let h = (range k).0 in
+            let i = (range k).1 in
+            absurd (clash (bad_entries (record { low = r.low; high = r.high }) x e).0 (rw (lt-ltb r.low r.high h, le-leb r.high 256 i)));
+      }
 
-  pub guard_lost : b ≡ false → Responds respond_guard_request r t (not_held r.serial) t
-  guard_lost f = record { responded = λ s k _ y. rw (owned_is s k y ∙ f) (refl, y) }
+  module _ (b : Bool) (eb : b ≡ owning r.player r.serial r.low (r.high - r.low) t) where
+    owned_is : (s : State) → T (fields_hold r) → t ≡ table_of (removed s r) → still_owned s r ≡ b
+    owned_is s k y =
+        let h = (range k).0 in
+        let i = (range k).1 in
+        sym
+        (eb ∙ ap (owning r.player r.serial r.low (r.high - r.low)) y
+        ∙ owning_state (removed s r) r.player r.serial r.low (r.high - r.low) (omega arith))
 
-  module _ (f : b ≡ true) where
-    pub guard_layout : (r.first ≡ 1 → ⊥) → Responds respond_guard_request r t (layout_changed r.serial) t
-    guard_layout n = record { responded = λ s k _ y. rw (owned_is s k y ∙ f, ne_eqb r.first 1 n) (refl, y) }
+    pub guard_lost : b ≡ false → Responds respond_guard_request r t (not_held r.serial) t
+    guard_lost f = record { responded = λ s k _ y. rw (owned_is s k y ∙ f) (refl, y) }
 
-    pub guard_granted : r.first ≡ 1 → (t' : List ℕ) → t' ≡ filled 513 (r.player * 256 + r.low) (r.player * 256 + r.high) r.serial t → Responds respond_guard_request r t (grants r.serial) t'
-    guard_granted n t' e =
-        record {
-          responded =
-              λ s k _ y.
-              let h = (range k).0 in
-              let i = (range k).1 in
-              rw (owned_is s k y ∙ f, eq-eqb r.first 1 n)
-              (refl, e ∙ ap (filled 513 (r.player * 256 + r.low) (r.player * 256 + r.high) r.serial) y ∙ granted (removed s r) r.player hp r.low r.high (omega arith) i r.serial);
-        }
+    module _ (f : b ≡ true) where
+      pub guard_layout : (r.first ≡ 1 → ⊥) → Responds respond_guard_request r t (layout_changed r.serial) t
+      guard_layout n = record { responded = λ s k _ y. rw (owned_is s k y ∙ f, ne_eqb r.first 1 n) (refl, y) }
+
+      pub guard_granted : r.first ≡ 1 → (t' : List ℕ) → t' ≡ filled 513 (r.player * 256 + r.low) (r.player * 256 + r.high) r.serial t → Responds respond_guard_request r t (grants r.serial) t'
+      guard_granted n t' e =
+          record {
+            responded =
+                λ s k _ y.
+                let h = (range k).0 in
+                let i = (range k).1 in
+                rw (owned_is s k y ∙ f, eq-eqb r.first 1 n)
+                (refl, e ∙ ap (filled 513 (r.player * 256 + r.low) (r.player * 256 + r.high) r.serial) y ∙ granted (removed s r) r.player hp r.low r.high (omega arith) i r.serial);
+          }
 
 -- ---- load
 

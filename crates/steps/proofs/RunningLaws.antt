@@ -18,8 +18,7 @@ use Rattle.players.specs.Rules.{step}
 use Rattle.players.specs.Table.{state_of, table_of, valid}
 use Rattle.players.specs.Calls.{whole, Refines, Done}
 use Rattle.players.proofs.CallLaws.{same_tables, stepped}
-use Rattle.session.specs.declared.Decoded.{Decoded}
-use Rattle.session.specs.declared.Decoded.TheVariants.{Record, Refused}
+use Rattle.session.specs.Decoded.{Decoded, Record, Refused}
 use Rattle.session.specs.Records.{decode, Decodes, Bytes}
 use Rattle.session.specs.Mark.{mark}
 use Rattle.session.specs.Runs.{report, Run, at_end, spent, stopped, took, run_from, filled}

@@ -9,7 +9,7 @@ use lib.ListN.{length, take, drop}
 use borrow.Author.Tests.{eq-eqb, ne_eqb, lt-ltb, le-leb}
 use borrow.Rule.Slice.PartMut.{put_mid}
 use Rattle.store.specs.declared.Reply.{Reply}
-use Rattle.store.specs.declared.Interval.{Interval}
+use Rattle.store.specs.Calls.{IntervalReply}
 use Rattle.store.specs.Model.{Store, bad_range, one_tablet, guarded, commits, committed}
 use Rattle.store.specs.Table.{store_of, table_of as store_table}
 use Rattle.store.specs.Calls.{Result as StoreResult, Done as StoreDone, Refines as StoreRefines, encoded as store_encoded, reply, result, refusal as refused_store, outcome, install, read, commit, split, merge, restart, interval_of}
@@ -17,10 +17,9 @@ use Rattle.store.specs.Words.{interval_words}
 use Rattle.store.proofs.Reach.{interval_right}
 use Rattle.requests.specs.declared.Request.{Request}
 use Rattle.requests.specs.declared.Fit.TheVariants.{Undelivered}
-use Rattle.requests.specs.declared.Found.TheVariants.{At, Nowhere}
 use Rattle.requests.specs.Model.{is_guard_request, is_read, drop_request, change_request, mark_delivered}
 use Rattle.requests.specs.Region.{region_of, request_holds}
-use Rattle.requests.specs.Calls.{found, without, with_delivered}
+use Rattle.requests.specs.Calls.{At, Nowhere, found, without, with_delivered}
 use Rattle.requests.proofs.Rising.{each_at}
 use Rattle.requests.proofs.RequestRules.{form_of, guard_request_range}
 use Rattle.requests.proofs.Placed.{region_requests}
@@ -233,7 +232,7 @@ module _ (st t : List ℕ) (ls : length st ≡ 1280) (l : length t ≡ players_w
 -- ---- 14 find a guard interval
 
 -- the tables stay, and the reply has what the store's search finds
-pub find_shifts : (st : List ℕ) → length st ≡ 1280 → (e : ℕ) → e < 256 → (x : Interval) → x ≡ interval_words e st → Shifts (λ s. step s (FindInterval e)) st (interval x.first x.last) st
+pub find_shifts : (st : List ℕ) → length st ≡ 1280 → (e : ℕ) → e < 256 → (x : IntervalReply) → x ≡ interval_words e st → Shifts (λ s. step s (FindInterval e)) st (interval x.first x.last) st
 find_shifts st ls e h x is =
     record {
       shifted =
@@ -241,5 +240,5 @@ find_shifts st ls e h x is =
           let s = state_of st t in
           let d : x ≡ interval_of e s.store = is ∙ interval_right (last_word t) st ls (valid_store_words st t v) e h ∙ ap (interval_of e) (sym (state_of_store st t)) in
           sym (same_tables st t (is_whole st t ls l) v _)
-          ∙ ap (λ (y : Interval). encoded (record { state = s; reply = interval y.first y.last })) d;
+          ∙ ap (λ (y : IntervalReply). encoded (record { state = s; reply = interval y.first y.last })) d;
     }

@@ -4,14 +4,13 @@ use mathlib.Core.Path.{◌≡◌, sym, ap, ◌∙◌}
 use mathlib.Core.Bool.{true, false}
 use mathlib.Core.List.{List}
 use Prim.Native.Nat.{ℕ, suc, ◌+◌, ◌-◌, ◌*◌, ◌≤◌, ◌<◌}
-use native.Mathlib.Numerals.{add-one}
 use native.Mathlib.Omega.{arith}
-use lib.Dec.{T, leb, eqb, lit≤}
+use lib.Dec.{T, leb, ltb, eqb, lit≤}
 use lib.ListN.{length, get_or, take, drop, set, replicate, length-drop, length-replicate}
 use lib.Seq.{length-take-le}
 use mir.Syntax.{w64}
 use mir.Val.{Fits}
-use borrow.Author.Tests.{eq-eqb, ne_eqb, lt-ltb, le-ltb}
+use borrow.Author.Tests.{eq-eqb, ne_eqb}
 use borrow.Rule.Slice.PartMut.{put_mid, same_len_mid}
 use Rattle.steps.specs.InnerWords.{live_guard, hit, all_are, caching, filled, cleared, dropped}
 use Rattle.players.specs.Table.{players_words}
@@ -25,27 +24,9 @@ module _ (t : List ℕ) (p e : ℕ) where
   abbrev cached : ℕ
   cached = get_or t (2561 + (p * 256 + e)) 0
 
-  pub no_guard : held ≡ 0 → 0 ≡ live_guard t p e
+  pub live_by : (held ≡ 0 → ⊥) → eqb (get_or t (1 + e) 0) p ≡ true → ltb (get_or t (257 + e) 0) held ≡ true → held ≡ live_guard t p e
   unfolding live_guard
-  no_guard h = rw (eq-eqb held 0 h)
-
-  module _ (h : held ≡ 0 → ⊥) where
-    pub not_owned : (get_or t (1 + e) 0 ≡ p → ⊥) → 0 ≡ live_guard t p e
-    unfolding live_guard
-    not_owned o = rw (ne_eqb held 0 h, ne_eqb (get_or t (1 + e) 0) p o)
-
-    module _ (o : get_or t (1 + e) 0 ≡ p) where
-      pub too_old : held ≤ get_or t (257 + e) 0 → 0 ≡ live_guard t p e
-      unfolding live_guard
-      too_old l = rw (ne_eqb held 0 h, eq-eqb (get_or t (1 + e) 0) p o, le-ltb (get_or t (257 + e) 0) held l)
-
-      pub is_live : get_or t (257 + e) 0 < held → held ≡ live_guard t p e
-      unfolding live_guard
-      is_live l = rw (ne_eqb held 0 h, eq-eqb (get_or t (1 + e) 0) p o, lt-ltb (get_or t (257 + e) 0) held l)
-
-  pub no_hit : cached ≡ 0 → false ≡ hit t p e
-  unfolding hit
-  no_hit h = rw (eq-eqb cached 0 h)
+  live_by h o l = rw (ne_eqb held 0 h, o, l)
 
   pub same_guard : (cached ≡ 0 → ⊥) → (g : ℕ) → g ≡ live_guard t p e → eqb g cached ≡ hit t p e
   unfolding hit
@@ -56,15 +37,17 @@ module _ (v : ℕ) (t : List ℕ) (i high : ℕ) where
     one : high - i ≡ suc (high - (i + 1))
     one = omega arith
 
-    pub all_stop : (get_or t i 0 ≡ v → ⊥) → all_are v i (high - i) t ≡ false
+    pub all_stop : (get_or t (1 + i) 0 ≡ v → ⊥) → all_are v (1 + i) (high - i) t ≡ false
     unfolding all_are
-    all_stop e = rw (one, ne_eqb (get_or t i 0) v e)
+    all_stop e = rw (one, ne_eqb (get_or t (1 + i) 0) v e)
 
-    pub all_more : get_or t i 0 ≡ v → all_are v i (high - i) t ≡ all_are v (i + 1) (high - (i + 1)) t
+    pub all_more : get_or t (1 + i) 0 ≡ v → all_are v (1 + i) (high - i) t ≡ all_are v (1 + (i + 1)) (high - (i + 1)) t
     unfolding all_are
-    all_more e = rw (one, eq-eqb (get_or t i 0) v e, add-one)
+    all_more e =
+        let next : suc (1 + i) ≡ 1 + (i + 1) = omega arith in
+        rw (one, eq-eqb (get_or t (1 + i) 0) v e, ← next)
 
-  pub all_end : high ≤ i → all_are v i (high - i) t ≡ true
+  pub all_end : high ≤ i → all_are v (1 + i) (high - i) t ≡ true
   unfolding all_are
   all_end h =
       let z : high - i ≡ 0 = omega arith in

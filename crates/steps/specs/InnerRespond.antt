@@ -1,7 +1,6 @@
 -- Step 7: what its code reads and writes, and what it does once the request has left.
 -- Assumes nothing.
-use Rattle.std.specs.Prelude.{◌≡◌, Bool, true, cond, not, ◌&&◌, List, ℕ, zero, suc, ◌+◌, ◌-◌, ◌*◌, ◌≤◌, T, ltb, eqb, get_or}
-use Rattle.store.specs.Model.{bad_range}
+use Rattle.std.specs.Prelude.{◌≡◌, Bool, true, cond, not, ◌&&◌, List, ℕ, zero, suc, ◌+◌, ◌*◌, ◌≤◌, T, ltb, eqb, get_or}
 use Rattle.store.specs.declared.Reply.{Reply}
 use Rattle.requests.specs.declared.Request.{Request}
 use Rattle.requests.specs.Model.{loader}
@@ -23,10 +22,6 @@ write_reply r = cond (eqb r.first 1) (committed r.serial r.value) (rejected r.se
 unfoldable pub owning : ℕ → ℕ → ℕ → ℕ → List ℕ → Bool
 owning p n e zero t = true
 owning p n e (suc k) t = (eqb (get_or t (owners_at + e) 0) p && ltb (get_or t (epochs_at + e) 0) n) && owning p n (suc e) k t
-
--- the range is one, and the player owns each entry of it so
-abbrev pub still_owning : ℕ → ℕ → ℕ → ℕ → List ℕ → Bool
-still_owning p lo hi n t = not (bad_range (record { low = lo; high = hi })) && owning p n lo (hi - lo) t
 
 -- a value read or written under guard g may be cached for the entry
 abbrev pub cacheable : ℕ → ℕ → ℕ → Bool → List ℕ → Bool

@@ -1,12 +1,17 @@
 -- What a step does to the players' table, and the words that its code reads and writes.
 -- Assumes nothing.
-use Rattle.std.specs.Prelude.{◌≡◌, Bool, true, false, cond, not, ◌&&◌, List, ℕ, zero, suc, ◌+◌, ◌-◌, ◌*◌, T, ltb, eqb, length, get_or, take, drop, set, replicate}
+use Rattle.std.specs.Prelude.{Result as Outcome, Ok, Err, ok_or, leb, ◌≡◌, Bool, true, false, cond, not, ◌&&◌, List, ℕ, zero, suc, ◌+◌, ◌-◌, ◌*◌, T, ltb, eqb, length, get_or, take, drop, set, replicate}
 use borrow.Rule.Slice.PartMut.{put_mid}
 use Rattle.store.specs.Model.{bad_range}
 use Rattle.store.specs.declared.Range.{Range}
 use Rattle.store.specs.declared.Reply.{Reply}
+use Rattle.store.specs.declared.refusal.Refusal.{Refusal}
+use Rattle.store.specs.declared.refusal.Refusal.TheVariants.{NoSerialLeft, NoPlaceLeft, NoSuchRequest}
 use Rattle.requests.specs.declared.Request.{Request}
-use Rattle.requests.specs.Calls.{with_request, with_abandoned, without, Crossing, crossing, crossed}
+use Rattle.requests.specs.declared.Fit.{Fit}
+use Rattle.requests.specs.declared.Found.{Found}
+use Rattle.requests.specs.Shares.{turned_away, count_in}
+use Rattle.requests.specs.Calls.{found, with_request, with_abandoned, without, Crossing, crossing, crossed}
 use Rattle.players.specs.Replies.{out_of_range}
 use Rattle.players.specs.Rules.{State, Result, check, need_serial, set_owner}
 use Rattle.players.specs.Table.{epochs_at, counters_at, guards_at, held_at, owners_at, requests_at, values_at, versions_at, state_of, table_of, valid}
@@ -40,6 +45,18 @@ hit t p e =
 unfoldable pub all_are : ℕ → ℕ → ℕ → List ℕ → Bool
 all_are v i zero t = true
 all_are v i (suc n) t = eqb (get_or t i 0) v && all_are v (suc i) n t
+
+-- the serial that comes next; 34 where the last was issued
+abbrev pub next_serial : List ℕ → Outcome ℕ Refusal
+next_serial t = cond (leb 4000000 (get_or t 0 0)) (Err NoSerialLeft) (Ok (get_or t 0 0 + 1))
+
+-- that of one more request of player p, where these are the counts of those in flight; 38 where no place is left
+abbrev pub next_request : List ℕ → ℕ → List ℕ → Outcome ℕ Refusal
+next_request counts p t = cond (turned_away (count_in counts) p) (Err NoPlaceLeft) (next_serial t)
+
+-- the first request with serial n, if it fits, and its place; 32 where none does
+abbrev pub requested : Fit → ℕ → List ℕ → Outcome Found Refusal
+requested f n t = ok_or (found f n (take region_words (drop requests_at t))) NoSuchRequest
 
 -- ---- what is written to a table
 

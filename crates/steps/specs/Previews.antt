@@ -4,7 +4,7 @@ use Rattle.std.specs.Prelude.{List, ℕ}
 use Rattle.store.specs.declared.Reply.{Reply}
 use Rattle.players.specs.declared.Step.{Step}
 use Rattle.players.specs.Played.{taken}
-use Rattle.session.specs.declared.Report.{Report}
+use Rattle.session.specs.Reports.{Report}
 use Rattle.session.specs.Runs.{preview_budget}
 use Rattle.steps.specs.RunCalls.{ran}
 

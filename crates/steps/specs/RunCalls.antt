@@ -6,7 +6,7 @@ use Rattle.store.specs.declared.Reply.{Reply}
 use Rattle.players.specs.Replies.{reply}
 use Rattle.players.specs.Table.{state_of, table_of, valid}
 use Rattle.players.specs.Calls.{whole}
-use Rattle.session.specs.declared.Report.{Report}
+use Rattle.session.specs.Reports.{Report}
 use Rattle.session.specs.Mark.{marked}
 use Rattle.session.specs.Runs.{report, Run, no_mark, too_long, longest, run_marked, reply_words, whole_places, filled}
 

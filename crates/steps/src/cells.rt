@@ -1,61 +1,48 @@
 // What the players have for each entry, in the players' table: the guards that they hold, and the values that they have cached.
-ghost use Rattle.std.specs.Prelude.{◌≡◌, ◌+◌, ◌-◌, ◌*◌, ◌≤◌, ◌<◌, length};
+ghost use Rattle.std.specs.Prelude.{◌≡◌, ◌+◌, ◌-◌, ◌*◌, ◌≤◌, ◌<◌};
 ghost use Rattle.steps.specs.InnerWords.{live_guard, hit, all_are, caching, cleared, dropped};
-ghost use Rattle.players.specs.Table.{players_words};
+ghost use Rattle.players.specs.Table.{owners_at};
 
-use players::layout;
-use store::words;
+use players::{Player, Table, layout};
+use store::{Entries, words};
 
 // The guard that the player holds for the entry if it is live, else 0.
-pub(crate) fn live_guard(players: &[u32], player: u8, entry: u8) -> u32
-    requires { (length players.now ≡ players_words) × (player < 8) }
+#[tactic(auto, unfolding(crate::specs::InnerWords::live_guard))]
+pub(crate) fn live_guard(players: &Table, player: Player, entry: u8) -> u32
     ensures { result ≡ live_guard players.now player entry }
 {
-    let e = entry as usize;
-    let guard = players[layout::HELD + (player as usize * layout::ENTRIES + e)];
-    if guard == 0 {
-        return 0;
-    }
-    if players[layout::OWNERS + e] != player as u32 {
-        return 0;
-    }
-    if players[layout::EPOCHS + e] >= guard {
-        return 0;
-    }
-    guard
+    let e = usize::from(entry);
+    let guard = players[layout::HELD + player.cell(entry)];
+    let is_live = guard != 0
+        && players[layout::OWNERS + e] == u32::from(player)
+        && players[layout::EPOCHS + e] < guard;
+    if is_live { guard } else { 0 }
 }
 
 // Whether what the player has cached for the entry may be read.
-pub(crate) fn is_hit(players: &[u32], player: u8, entry: u8) -> bool
-    requires { (length players.now ≡ players_words) × (player < 8) }
+#[tactic(auto, unfolding(crate::specs::InnerWords::hit))]
+pub(crate) fn is_hit(players: &Table, player: Player, entry: u8) -> bool
     ensures { result ≡ hit players.now player entry }
 {
-    let guard = players[layout::CACHED_GUARDS
-        + (player as usize * layout::ENTRIES + entry as usize)];
-    if guard == 0 {
-        return false;
-    }
-    live_guard(players, player, entry) == guard
+    let guard = players[layout::CACHED_GUARDS + player.cell(entry)];
+    guard != 0 && live_guard(players, player, entry) == guard
 }
 
-// Whether each word from `low` up to `high` is `v`.
-pub(crate) fn all_are(players: &[u32], low: usize, high: usize, v: u32) -> bool
-    requires { (low ≤ high) × (high ≤ length players.now) }
-    ensures { result ≡ all_are v low (high - low) players.now }
+// Whether the player owns all of the entries.
+pub(crate) fn owns_all(players: &Table, player: Player, entries: Entries) -> bool
+    ensures { result ≡ all_are player (owners_at + entries.low) (entries.high - entries.low) players.now }
 {
-    let mut i = low;
-    while i < high {
-        if players[i] != v {
+    for e in entries.low()..entries.high() {
+        if players[layout::OWNERS + e] != u32::from(player) {
             return false;
         }
-        i += 1;
     }
     true
 }
 
 // Caches a value in cell `i`, or empties it.
-pub(crate) fn cache(players: &mut [u32], i: usize, guard: u32, version: u32, value: u32)
-    requires { (length players.old ≡ players_words) × (i < 2048) }
+pub(crate) fn cache(players: &mut Table, i: usize, guard: u32, version: u32, value: u32)
+    requires { i < 2048 }
     ensures { players.new ≡ caching i guard version value players.old }
 {
     players[layout::CACHED_GUARDS + i] = guard;
@@ -63,11 +50,12 @@ pub(crate) fn cache(players: &mut [u32], i: usize, guard: u32, version: u32, val
     players[layout::CACHED_VALUES + i] = value;
 }
 
-// Clears the guards of cells `low` up to `high`, each with what is cached under it.
-pub(crate) fn clear(players: &mut [u32], low: usize, high: usize)
-    requires { (length players.old ≡ players_words) × (low ≤ high) × (high ≤ 2048) }
-    ensures { players.new ≡ cleared low high players.old }
+// Clears the player's guards of the entries, each with what is cached under it.
+pub(crate) fn clear(players: &mut Table, player: Player, entries: Entries)
+    ensures { players.new ≡ cleared (player * 256 + entries.low) (player * 256 + entries.high) players.old }
 {
+    let low = player.row() + entries.low();
+    let high = player.row() + entries.high();
     words::fill(&mut players[layout::HELD + low..layout::HELD + high], 0);
     words::fill(
         &mut players[layout::CACHED_GUARDS + low..layout::CACHED_GUARDS + high],
@@ -84,8 +72,8 @@ pub(crate) fn clear(players: &mut [u32], low: usize, high: usize)
 }
 
 // Clears the guard of cell `i` if it is `guard`, with what is cached under it.
-fn drop_at(players: &mut [u32], i: usize, guard: u32)
-    requires { (length players.old ≡ players_words) × (i < 2048) }
+fn drop_at(players: &mut Table, i: usize, guard: u32)
+    requires { i < 2048 }
     ensures { players.new ≡ dropped guard i 1 players.old }
 {
     if players[layout::HELD + i] != guard {
@@ -96,8 +84,8 @@ fn drop_at(players: &mut [u32], i: usize, guard: u32)
 }
 
 // Clears those of the four guards from cell `i` on that are `guard`, each with what is cached under it.
-fn drop_four(players: &mut [u32], i: usize, guard: u32)
-    requires { (length players.old ≡ players_words) × (i + 4 ≤ 2048) }
+fn drop_four(players: &mut Table, i: usize, guard: u32)
+    requires { i + 4 ≤ 2048 }
     ensures { players.new ≡ dropped guard i 4 players.old }
 {
     drop_at(players, i, guard);
@@ -107,14 +95,11 @@ fn drop_four(players: &mut [u32], i: usize, guard: u32)
 }
 
 // Clears each guard of the player that is `guard`, four cells at a time.
-pub(crate) fn drop_guard(players: &mut [u32], player: u8, guard: u32)
-    requires { (length players.old ≡ players_words) × (player < 8) }
+pub(crate) fn drop_guard(players: &mut Table, player: Player, guard: u32)
     ensures { players.new ≡ dropped guard (player * 256) 256 players.old }
 {
-    let low = player as usize * layout::ENTRIES;
-    let mut k: usize = 0;
-    while k < 64 {
+    let low = player.row();
+    for k in 0..64 {
         drop_four(players, low + k * 4, guard);
-        k += 1;
     }
 }

@@ -1,20 +1,21 @@
-// Steps 3, 4 and 5: requests that are issued. The length of the players' table is known; its rules are not tested.
-ghost use Rattle.std.specs.Prelude.{◌≡◌, length, false};
+// Steps 3, 4 and 5: requests that are issued. The rules of the players' table are not tested.
+ghost use Rattle.std.specs.Prelude.{◌≡◌, false};
 ghost use Rattle.requests.specs.Model.{new_request};
 ghost use Rattle.requests.specs.Calls.{crossing};
 ghost use Rattle.players.specs.declared.Step.TheVariants.{Read, RequestGuard, Write};
 ghost use Rattle.players.specs.Rules.{step};
+ghost use Rattle.steps.specs.Answers.{answered};
 ghost use Rattle.steps.specs.InnerWords.{Moves, added, crossed_table};
-ghost use Rattle.players.specs.Table.{players_words};
 
-use crate::{cells, counting, issued};
-use players::layout;
-use requests::{Request, kinds, region, shares};
-use store::{Range, Reply, codes, refuse};
+use crate::named::next_request;
+use crate::{Answer, Given, cells, counting};
+use players::{Player, Table, layout};
+use requests::tests::{Requesting, UsingEntry, Writing};
+use requests::{Request, kinds, region};
+use store::{Entries, Range, Refusal, codes};
 
 // Adds a request at place `k`, the first that is not used; its serial is the last one issued.
-pub(crate) fn add(players: &mut [u32], k: usize, r: Request)
-    requires { length players.old ≡ players_words }
+pub(crate) fn add(players: &mut Table, k: usize, r: Request)
     ensures { players.new ≡ added k r players.old }
 {
     players[layout::LAST] = r.serial;
@@ -70,92 +71,55 @@ pub(crate) fn for_entry(
 }
 
 // Step 3: the player must own every entry of the range, and its guards there are cleared.
-pub(crate) fn request_guard(players: &mut [u32], player: u8, range: Range) -> Reply
-    requires { length players.old ≡ players_words }
-    ensures { Moves (λ s. step s (RequestGuard player range)) players.old result players.new }
+pub(crate) fn request_guard(players: &mut Table, player: u8, range: Range) -> Answer
+    ensures { Moves (λ s. step s (RequestGuard player range)) players.old (answered result) players.new }
 {
-    if player > layout::LAST_PLAYER {
-        return refuse(codes::OUT_OF_RANGE);
+    let asker = Player::try_from(player)?;
+    let entries = Entries::try_from(range)?;
+    if !cells::owns_all(players, asker, entries) {
+        return Err(Refusal::NotOwner);
     }
-    let low = range.low as usize;
-    let high = range.high as usize;
-    if low >= high {
-        return refuse(codes::OUT_OF_RANGE);
-    }
-    if high > layout::ENTRIES {
-        return refuse(codes::OUT_OF_RANGE);
-    }
-    if !cells::all_are(
-        players,
-        layout::OWNERS + low,
-        layout::OWNERS + high,
-        player as u32,
-    ) {
-        return refuse(codes::NOT_OWNER);
-    }
-    let scan = region::scan_requesting(
+    let scan = region::scan_for(
         &players[layout::REQUESTS..layout::REQUESTS_END],
-        player,
-        range,
+        &Requesting { player, range },
     );
     if scan.hit {
-        return refuse(codes::ALREADY_REQUESTED);
+        return Err(Refusal::AlreadyRequested);
     }
-    if shares::has_no_place(scan.counts, player) {
-        return refuse(codes::NO_PLACE_LEFT);
-    }
-    let last = players[layout::LAST];
-    if last >= layout::SERIALS {
-        return refuse(codes::NO_SERIAL_LEFT);
-    }
-    let i = player as usize * layout::ENTRIES;
-    cells::clear(players, i + low, i + high);
-    add(players, scan.used, for_guard(last + 1, player, range));
-    issued(last + 1)
+    let serial = next_request(players, &scan.counts, player)?;
+    cells::clear(players, asker, entries);
+    add(players, scan.used, for_guard(serial, player, range));
+    Ok(Given::Issued { serial })
 }
 
 // Step 4: from the cache if it holds a live value, and then it is counted; else a request.
-pub(crate) fn read(players: &mut [u32], player: u8, entry: u8) -> Reply
-    requires { length players.old ≡ players_words }
-    ensures { Moves (λ s. step s (Read player entry)) players.old result players.new }
+pub(crate) fn read(players: &mut Table, player: u8, entry: u8) -> Answer
+    ensures { Moves (λ s. step s (Read player entry)) players.old (answered result) players.new }
 {
-    if player > layout::LAST_PLAYER {
-        return refuse(codes::OUT_OF_RANGE);
+    let reader = Player::try_from(player)?;
+    if cells::is_hit(players, reader, entry) {
+        let i = reader.cell(entry);
+        let version = players[layout::CACHED_VERSIONS + i];
+        let value = players[layout::CACHED_VALUES + i];
+        counting::count(players, reader, codes::CACHE_READ);
+        return Ok(Given::CacheRead { version, value });
     }
-    let i = player as usize * layout::ENTRIES + entry as usize;
-    if cells::is_hit(players, player, entry) {
-        let reply = Reply {
-            code: codes::CACHE_READ,
-            a: players[layout::CACHED_VERSIONS + i],
-            b: players[layout::CACHED_VALUES + i],
-        };
-        counting::count(players, player, codes::CACHE_READ);
-        return reply;
-    }
-    let scan = region::scan_writing(
+    let scan = region::scan_for(
         &players[layout::REQUESTS..layout::REQUESTS_END],
-        player,
-        entry,
+        &Writing { player, entry },
     );
-    if shares::has_no_place(scan.counts, player) {
-        return refuse(codes::NO_PLACE_LEFT);
-    }
-    let last = players[layout::LAST];
-    if last >= layout::SERIALS {
-        return refuse(codes::NO_SERIAL_LEFT);
-    }
-    let guard = cells::live_guard(players, player, entry);
+    let serial = next_request(players, &scan.counts, player)?;
+    let guard = cells::live_guard(players, reader, entry);
     add(
         players,
         scan.used,
-        for_entry(last + 1, player, kinds::READ, entry, 0, guard, scan.hit),
+        for_entry(serial, player, kinds::READ, entry, 0, guard, scan.hit),
     );
-    issued(last + 1)
+    Ok(Given::Issued { serial })
 }
 
 // Marks the player's pending reads and writes on the entry as overlapped, where `any` tells that there are some; whether a write is among them.
-fn cross(players: &mut [u32], any: bool, player: u8, entry: u8) -> bool
-    requires { length players.old ≡ players_words }
+fn cross(players: &mut Table, any: bool, player: u8, entry: u8) -> bool
     ensures { crossing result players.new ≡ crossed_table any player entry players.old }
 {
     if !any {
@@ -169,40 +133,29 @@ fn cross(players: &mut [u32], any: bool, player: u8, entry: u8) -> bool
 }
 
 // Step 5: needs ownership and a live guard, which the request carries.
-pub(crate) fn write(players: &mut [u32], player: u8, entry: u8, value: u32) -> Reply
-    requires { length players.old ≡ players_words }
-    ensures { Moves (λ s. step s (Write player entry value)) players.old result players.new }
+pub(crate) fn write(players: &mut Table, player: u8, entry: u8, value: u32) -> Answer
+    ensures { Moves (λ s. step s (Write player entry value)) players.old (answered result) players.new }
 {
-    if player > layout::LAST_PLAYER {
-        return refuse(codes::OUT_OF_RANGE);
+    let writer = Player::try_from(player)?;
+    if players[layout::OWNERS + usize::from(entry)] != u32::from(player) {
+        return Err(Refusal::NotOwner);
     }
-    let e = entry as usize;
-    if players[layout::OWNERS + e] != player as u32 {
-        return refuse(codes::NOT_OWNER);
-    }
-    let guard = cells::live_guard(players, player, entry);
+    let guard = cells::live_guard(players, writer, entry);
     if guard == 0 {
-        return refuse(codes::NO_LIVE_GUARD);
+        return Err(Refusal::NoLiveGuard);
     }
-    let scan = region::scan_using(
+    let scan = region::scan_for(
         &players[layout::REQUESTS..layout::REQUESTS_END],
-        player,
-        entry,
+        &UsingEntry { player, entry },
     );
-    if shares::has_no_place(scan.counts, player) {
-        return refuse(codes::NO_PLACE_LEFT);
-    }
-    let last = players[layout::LAST];
-    if last >= layout::SERIALS {
-        return refuse(codes::NO_SERIAL_LEFT);
-    }
-    cells::cache(players, player as usize * layout::ENTRIES + e, 0, 0, 0);
+    let serial = next_request(players, &scan.counts, player)?;
+    cells::cache(players, writer.cell(entry), 0, 0, 0);
     let overlapped = cross(players, scan.hit, player, entry);
     add(
         players,
         scan.used,
         for_entry(
-            last + 1,
+            serial,
             player,
             kinds::WRITE,
             entry,
@@ -211,5 +164,5 @@ pub(crate) fn write(players: &mut [u32], player: u8, entry: u8, value: u32) -> R
             overlapped,
         ),
     );
-    issued(last + 1)
+    Ok(Given::Issued { serial })
 }

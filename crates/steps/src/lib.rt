@@ -1,11 +1,13 @@
-// The steps, on the store's table and the players'.
+//! The steps, on the store's table and the players'.
 #![tactic(auto)]
 
+mod answers;
 mod cells;
 mod counting;
 mod issuing;
 mod leaving;
 mod loading;
+mod named;
 mod ownership;
 pub mod previews;
 mod responding;
@@ -13,34 +15,20 @@ pub mod running;
 mod store_steps;
 
 ghost use Rattle.std.specs.Prelude.{◌≡◌};
-ghost use Rattle.players.specs.Replies.{issued};
 ghost use Rattle.players.specs.Rules.{step};
+ghost use Rattle.steps.specs.Answers.{answered};
 ghost use Rattle.players.specs.Calls.{left, called, Refines};
 
-use players::{Step, layout};
-use store::{Reply, codes, refuse};
+pub use answers::{Answer, Given};
+use players::{Step, Table, layout};
+use store::Refusal;
 
-// The reply of a step that takes a serial.
-fn issued(serial: u32) -> Reply
-    ensures { result ≡ issued serial }
+/// A step on whole tables. They are lent side by side and not as one struct of two loans: few of the functions that are called take both, and each would
+/// have to promise that it gives back the same loans.
+#[inline(always)]
+fn apply_on(store: &mut store::Table, players: &mut Table, next: Step) -> Answer
+    ensures { Refines (λ s. step s next) store.old players.old (answered result) store.new players.new }
 {
-    Reply {
-        code: codes::ISSUED,
-        a: serial,
-        b: 0,
-    }
-}
-
-// A step on tables that are known to keep the rules: their lengths alone are tested.
-pub(crate) fn apply(store: &mut [u32], players: &mut [u32], next: Step) -> Reply
-    ensures { Refines (λ s. step s next) store.old players.old result store.new players.new }
-{
-    if store.len() != store::layout::WORDS {
-        return refuse(codes::WRONG_LENGTH);
-    }
-    if players.len() != layout::WORDS {
-        return refuse(codes::WRONG_LENGTH);
-    }
     match next {
         Step::Assign { player, range } => ownership::assign(players, player, range),
         Step::Release { range } => ownership::release(players, range),
@@ -64,13 +52,32 @@ pub(crate) fn apply(store: &mut [u32], players: &mut [u32], next: Step) -> Reply
     }
 }
 
-// A step: the tables are tested first.
-pub fn step(store: &mut [u32], players: &mut [u32], next: Step) -> Reply
-    ensures { left result store.new players.new ≡ called (λ s. step s next) store.old players.old }
+/// A step beside a whole table of the store: the length of the players' is tested.
+#[inline(always)]
+fn apply_beside(store: &mut store::Table, players: &mut [u32], next: Step) -> Answer
+    ensures { Refines (λ s. step s next) store.old players.old (answered result) store.new players.new }
 {
-    let tested = players::check(store, players);
-    if tested.code != 0 {
-        return tested;
-    }
+    let Some(players) = players.as_mut_array::<{ layout::WORDS }>() else {
+        return Err(Refusal::WrongLength);
+    };
+    apply_on(store, players, next)
+}
+
+/// A step on tables that are known to keep the rules: their lengths alone are tested.
+#[inline(always)]
+pub(crate) fn apply(store: &mut [u32], players: &mut [u32], next: Step) -> Answer
+    ensures { Refines (λ s. step s next) store.old players.old (answered result) store.new players.new }
+{
+    let Some(store) = store.as_mut_array::<{ store::layout::WORDS }>() else {
+        return Err(Refusal::WrongLength);
+    };
+    apply_beside(store, players, next)
+}
+
+/// A step: the tables are tested first.
+pub fn step(store: &mut [u32], players: &mut [u32], next: Step) -> Answer
+    ensures { left (answered result) store.new players.new ≡ called (λ s. step s next) store.old players.old }
+{
+    players::check(store, players)?;
     apply(store, players, next)
 }

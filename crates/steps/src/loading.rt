@@ -1,38 +1,31 @@
-// Step 15: loads. The length of the players' table is known; its rules are not tested.
-ghost use Rattle.std.specs.Prelude.{◌≡◌, length};
+// Step 15: loads. The rules of the players' table are not tested.
+ghost use Rattle.std.specs.Prelude.{◌≡◌};
 ghost use Rattle.players.specs.declared.Step.TheVariants.{Load};
 ghost use Rattle.players.specs.Rules.{step};
-ghost use Rattle.players.specs.Table.{players_words};
+ghost use Rattle.steps.specs.Answers.{answered};
 ghost use Rattle.steps.specs.InnerWords.{Moves};
 
-use crate::{issued, issuing};
-use players::layout;
-use requests::{kinds, region, shares};
+use crate::named::next_request;
+use crate::{Answer, Given, issuing};
+use players::{Table, layout};
+use requests::tests::Writing;
+use requests::{kinds, region};
 use store::layout::OPEN;
-use store::{Reply, codes, refuse};
 
 // A write of the loader, which needs no ownership, carries no guard and crosses no request.
-pub(crate) fn load(players: &mut [u32], entry: u8, value: u32) -> Reply
-    requires { length players.old ≡ players_words }
-    ensures { Moves (λ s. step s (Load entry value)) players.old result players.new }
+pub(crate) fn load(players: &mut Table, entry: u8, value: u32) -> Answer
+    ensures { Moves (λ s. step s (Load entry value)) players.old (answered result) players.new }
 {
     let player = requests::layout::LOADER;
-    let scan = region::scan_writing(
+    let scan = region::scan_for(
         &players[layout::REQUESTS..layout::REQUESTS_END],
-        player,
-        entry,
+        &Writing { player, entry },
     );
-    if shares::has_no_place(scan.counts, player) {
-        return refuse(codes::NO_PLACE_LEFT);
-    }
-    let last = players[layout::LAST];
-    if last >= layout::SERIALS {
-        return refuse(codes::NO_SERIAL_LEFT);
-    }
+    let serial = next_request(players, &scan.counts, player)?;
     issuing::add(
         players,
         scan.used,
-        issuing::for_entry(last + 1, player, kinds::WRITE, entry, value, OPEN, false),
+        issuing::for_entry(serial, player, kinds::WRITE, entry, value, OPEN, false),
     );
-    issued(last + 1)
+    Ok(Given::Issued { serial })
 }

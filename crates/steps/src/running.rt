@@ -2,13 +2,15 @@
 ghost use Rattle.std.specs.Prelude.{◌≡◌, [], ◌∷◌, ◌+◌, ◌≤◌, length, drop};
 ghost use Rattle.std.proofs.lemmas.List.Edits.{sets};
 ghost use Rattle.players.specs.Table.{state_of};
+ghost use Rattle.store.specs.Refusals.{number_of};
 ghost use Rattle.session.specs.Mark.{mark};
+ghost use Rattle.session.specs.Reports.{why_of, reported};
 ghost use Rattle.session.specs.Runs.{report, allowed, run_from, reply_words};
 ghost use Rattle.steps.specs.RunCalls.{finished, encoded, ran};
 ghost use Rattle.steps.specs.InnerRun.{Ready};
 
-use session::{Decoded, Report, codes, mark, sizes};
-use store::Reply;
+use session::{Record, Report, Stop, mark, sizes};
+use store::{Refusal, Reply};
 
 // Puts a reply into three places of the list.
 fn put_reply(list: &mut [u32], at: usize, reply: Reply)
@@ -24,17 +26,13 @@ fn put_reply(list: &mut [u32], at: usize, reply: Reply)
 fn allowed(budget: u32, places: usize) -> usize
     ensures { result ≡ allowed budget places }
 {
-    if budget as usize <= places {
-        budget as usize
-    } else {
-        places
-    }
+    places.min(budget as usize)
 }
 
 // Why a run stopped, the records it took, and the place after them.
-pub(crate) fn stopped(why: u32, taken: usize, place: usize) -> Report
+fn stopped(why: Stop, taken: usize, place: usize) -> Report
     requires { (taken ≤ 4294967295) × (place ≤ 4294967295) }
-    ensures { result ≡ report why taken place }
+    ensures { reported result ≡ report (why_of why) taken place }
 {
     Report {
         why,
@@ -43,7 +41,7 @@ pub(crate) fn stopped(why: u32, taken: usize, place: usize) -> Report
     }
 }
 
-// Takes at most `left` records, from the byte after the mark on.
+// Takes at most `left` records, from the byte after the mark on. A `while`: each record tells where the next begins, and that place is reported.
 fn take_records(
     store: &mut [u32],
     players: &mut [u32],
@@ -52,30 +50,34 @@ fn take_records(
     replies: &mut [u32],
 ) -> Report
     requires { Ready store.old players.old session.now left replies.old }
-    ensures { finished result replies.new store.new players.new ≡ encoded replies.old (run_from left (state_of store.old players.old) (length mark) (drop (length mark) session.now)) }
+    ensures { finished (reported result) replies.new store.new players.new ≡ encoded replies.old (run_from left (state_of store.old players.old) (length mark) (drop (length mark) session.now)) }
 {
     let mut place: usize = mark::LENGTH;
     let mut taken: usize = 0;
     while place != session.len() {
         if left <= taken {
-            return stopped(codes::SPENT, taken, place);
+            return stopped(Stop::Spent, taken, place);
         }
-        let found = session::records::decode(&session[place..]);
-        // The copy is read field by field; found itself would be read in wider pieces than it was written in, and wait for them.
-        let decoded = found;
-        match decoded {
-            Decoded::Record { step, length } => {
-                let reply = crate::apply(store, players, step);
+        match session::records::decode(&session[place..]) {
+            Ok(Record { step, length }) => {
+                let reply = Reply::from(crate::apply(store, players, step));
                 put_reply(replies, sizes::REPLY * taken, reply);
                 place += length;
                 taken += 1;
             }
-            Decoded::Refused(why) => {
-                return stopped(why, taken, place);
+            Err(refusal) => {
+                return stopped(Stop::Refused(refusal), taken, place);
             }
         }
     }
-    stopped(codes::AT_END, taken, place)
+    stopped(Stop::AtEnd, taken, place)
+}
+
+// A run that is refused.
+pub(crate) fn refused(refusal: Refusal) -> Report
+    ensures { reported result ≡ report (number_of refusal) 0 0 }
+{
+    stopped(Stop::Refused(refusal), 0, 0)
 }
 
 // A run: tables, session, a budget of records and a list for replies, of three numbers each.
@@ -86,19 +88,17 @@ pub fn run(
     budget: u32,
     replies: &mut [u32],
 ) -> Report
-    ensures { finished result replies.new store.new players.new ≡ ran store.old players.old session.now budget replies.old }
+    ensures { finished (reported result) replies.new store.new players.new ≡ ran store.old players.old session.now budget replies.old }
 {
-    let tested = players::check(store, players);
-    if tested.code != 0 {
-        return stopped(tested.code, 0, 0);
+    if let Err(refusal) = players::check(store, players) {
+        return refused(refusal);
     }
     if sizes::LONGEST < session.len() {
-        return stopped(codes::TOO_LONG, 0, 0);
+        return refused(Refusal::TooLong);
     }
-    if mark::marked(session) {
-        let left = allowed(budget, replies.len() / sizes::REPLY);
-        take_records(store, players, session, left, replies)
-    } else {
-        stopped(codes::NO_MARK, 0, 0)
+    if !mark::marked(session) {
+        return refused(Refusal::NoMark);
     }
+    let left = allowed(budget, replies.len() / sizes::REPLY);
+    take_records(store, players, session, left, replies)
 }

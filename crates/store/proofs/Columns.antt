@@ -1,116 +1,78 @@
--- What the stores of `shift`, `clear` and `splice` make of a column, and those of `replace` of a table.
+-- What the stores of `splice` make of a column, and those of `replace` of a table.
 -- Assumes nothing.
-use mathlib.Core.Path.{◌≡◌, refl, sym, ap, ◌∙◌}
+use mathlib.Core.Path.{◌≡◌, sym, ap, ◌∙◌}
 use mathlib.Core.Logic.{⊎_elim}
 use mathlib.Core.Bool.{true, false}
 use mathlib.Core.List.{List, [], ◌∷◌, ◌++◌, append_assoc}
-use Prim.Native.Nat.{ℕ, suc, ◌+◌, ◌-◌, ◌≤◌, ◌<◌}
+use Prim.Native.Nat.{ℕ, ◌+◌, ◌-◌, ◌≤◌, ◌<◌}
 use native.Mathlib.Omega.{arith}
-use native.Mathlib.Nat.{add-zero}
-use native.Mathlib.Numerals.{add-one}
 use lib.Dec.{eqb}
-use lib.ListN.{length, get_or, take, drop, set, replicate, length-drop, length-append, length-replicate, take-append-drop, get_or-append}
-use lib.Seq.{length-take-le, take-suc, drop-cons, set_at, get_or-take, get_or-drop, drop-drop, paste-zero, paste-suc, take-paste, drop-paste}
+use lib.ListN.{length, take, drop, replicate, length-drop, length-append, length-replicate, take-append-drop}
+use lib.Seq.{length-take-le, drop-drop, take-paste, drop-paste, length-paste, take-add}
 use borrow.Rule.Slice.PartMut.{put_mid}
 use borrow.Author.Tests.{le-leb, lt-leb}
 use Rattle.store.specs.Table.{part}
-use Rattle.store.specs.Inner.{moved, cleared}
+use Rattle.store.specs.Inner.{spliced_by}
 use Rattle.store.specs.Words.{spliced, pieces, replaced}
 use Rattle.store.proofs.Bools.{decide}
 use Rattle.store.proofs.Parts.{length-part, joined_parts, part_head, part_skip, put_at}
 
--- ---- `shift`
-
-pub moved_none : (l : List ℕ) (b k n : ℕ) → n ≡ 0 → l ≡ moved l b k n
-unfolding moved
-moved_none l b k n z = rw z (paste-zero l k (drop b l))
-
--- one number more, towards the front
-pub moved_up : (l : List ℕ) (b k i : ℕ) → k ≤ b → b + i < length l → set (moved l b k i) (k + i) (get_or (moved l b k i) (b + i) 0) ≡ moved l b k (i + 1)
-unfolding moved
-moved_up l b k i h j =
-    let d : i < length (drop b l) = rw length-drop (omega arith) in
-    let e : k + i + (b - k) ≡ b + i = omega arith in
-    let r : get_or (moved l b k i) (b + i) 0 ≡ get_or (drop b l) i 0 =
-    ap (λ (n : ℕ). get_or (moved l b k i) n 0) (sym e) ∙ sym (get_or-drop (k + i) (moved l b k i) (b - k) 0)
-    ∙ ap (λ (x : List ℕ). get_or x (b - k) 0) (drop-paste l k (drop b l) i (omega arith) (omega arith))
-    ∙ get_or-drop (k + i) l (b - k) 0 ∙ ap (λ (n : ℕ). get_or l n 0) e ∙ sym (get_or-drop b l i 0) in
-    ap (λ (v : ℕ). set (moved l b k i) (k + i) v) r ∙ paste-suc l k (drop b l) i 0 (omega arith) d ∙ ap (λ (n : ℕ). moved l b k n) (sym (add-one i))
-
--- one number more, towards the end
-down : (l : List ℕ) (b k n : ℕ) → b < k → k < length l → set (moved l (suc b) (suc k) n) k (get_or (moved l (suc b) (suc k) n) b 0) ≡ moved l b k (suc n)
-unfolding moved
-down l b k n h j =
-    let x : List ℕ = take n (drop (suc b) l) in
-    let y : List ℕ = drop (suc k + n) l in
-    let p : List ℕ = take (suc k) l in
-    let lp : length p ≡ suc k = length-take-le (suc k) l j in
-    let lpx : b < length (p ++ x) = rw length-append (omega (arith, lp)) in
-    let r : get_or (p ++ x ++ y) b 0 ≡ get_or l b 0 =
-    get_or-append (p ++ x) y 0 b lpx ∙ get_or-append p x 0 b (omega (arith, lp)) ∙ get_or-take (suc k) l b 0 (omega arith) in
-    let q : p ++ x ++ y ≡ take k l ++ (get_or l k 0 ∷ (x ++ y)) =
-    ap (λ (z : List ℕ). z ++ x ++ y) (take-suc l k 0 j) ∙ append_assoc (take k l ++ (get_or l k 0 ∷ [])) x y ∙ append_assoc (take k l) (get_or l k 0 ∷ []) (x ++ y) in
-    let e : suc k + n ≡ k + suc n = omega arith in
-    rw r
-    (ap (λ (z : List ℕ). set z k (get_or l b 0)) q
-    ∙ set_at (take k l) (get_or l k 0) (x ++ y) (get_or l b 0) k (length-take-le k l (omega arith))
-    ∙ sym
-    (ap (λ (z : List ℕ). take k l ++ take (suc n) z ++ drop (k + suc n) l) (drop-cons l b 0 (omega arith))
-    ∙ append_assoc (take k l) (get_or l b 0 ∷ x) (drop (k + suc n) l) ∙ ap (λ (m : ℕ). take k l ++ (get_or l b 0 ∷ (x ++ drop m l))) (sym e)))
-
-pub moved_down : (l : List ℕ) (b k n b₀ k₀ n₀ : ℕ) → b₀ ≡ suc b → k₀ ≡ suc k → n ≡ suc n₀ → b < k → k < length l → set (moved l b₀ k₀ n₀) k (get_or (moved l b₀ k₀ n₀) b 0) ≡ moved l b k n
-moved_down l b k n b₀ k₀ n₀ eb ek en h j = rw (eb, ek, en) (down l b k n₀ h j)
-
--- ---- `clear`
-
-pub cleared_none : (l : List ℕ) (k n : ℕ) → n ≡ 0 → l ≡ cleared l k n
-unfolding cleared
-cleared_none l k n z = rw z (sym (take-append-drop k l) ∙ ap (λ (i : ℕ). take k l ++ drop i l) (sym (add-zero k)))
-
-pub cleared_put : (l : List ℕ) (k n : ℕ) (p : List ℕ) → k + n ≤ length l → p ≡ replicate (length (take n (drop k l))) 0 → put_mid k n l p ≡ cleared l k n
-unfolding cleared
-cleared_put l k n p h e =
-    let m : length (take n (drop k l)) ≡ n = length-take-le n (drop k l) (rw length-drop (omega arith)) in
-    rw (e, m, drop-drop n k l)
-
 -- ---- `splice`
 
--- the numbers moved, and what is behind them cleared
-tail_moved : (l : List ℕ) (b k n d : ℕ) → k ≤ length l → b + n ≤ length l → cleared (moved l b k n) (k + n) d ≡ take k l ++ (take n (drop b l) ++ (replicate d 0 ++ drop (k + n + d) l))
-unfolding moved cleared
-tail_moved l b k n d h j =
-    let i : n ≤ length (drop b l) = rw length-drop (omega arith) in
-    let e : drop (k + n + d) (moved l b k n) ≡ drop (k + n + d) l =
-    sym (drop-drop d (k + n) (moved l b k n)) ∙ ap (drop d) (drop-paste l k (drop b l) n h i) ∙ drop-drop d (k + n) l in
-    rw (take-paste l k (drop b l) n h i, e) (append_assoc (take k l) (take n (drop b l)) (replicate d 0 ++ drop (k + n + d) l))
+module _ (l xs : List ℕ) (a b c : ℕ) (i : b ≤ c) (j : c ≤ length l) (h : a + length xs + (c - b) ≤ length l) where
+  abbrev tail : ℕ
+  tail = a + length xs
 
-module _ (l : List ℕ) (a b c x y : ℕ) (i : b ≤ c) (j : c ≤ length l) where
-  pub spliced_one : (m : ℕ) → m ≡ 1 → a + m ≤ length l → set (cleared (moved l b (a + m) (c - b)) (a + m + (c - b)) (c - (a + m + (c - b)))) a x ≡ spliced l a b c m x y
-  unfolding spliced
-  spliced_one m z h =
-      let n : ℕ = c - b in
-      let w : List ℕ = take n (drop b l) ++ (replicate (c - (a + m + n)) 0 ++ drop (a + m + n + (c - (a + m + n))) l) in
-      let e : a + m ≡ suc a = omega arith in
-      let p : take (a + m) l ≡ take a l ++ (get_or l a 0 ∷ []) = ap (λ (k : ℕ). take k l) e ∙ take-suc l a 0 (omega arith) in
-      let q : take m (x ∷ y ∷ []) ≡ x ∷ [] = rw z refl in
-      rw (tail_moved l b (a + m) n (c - (a + m + n)) h (omega arith), p, q, append_assoc (take a l) (get_or l a 0 ∷ []) w)
-      (set_at (take a l) (get_or l a 0) w x a (length-take-le a l (omega arith)))
+  abbrev n : ℕ
+  n = c - b
 
-  pub spliced_two : (m : ℕ) → m ≡ 2 → a + m ≤ length l → set (set (cleared (moved l b (a + m) (c - b)) (a + m + (c - b)) (c - (a + m + (c - b)))) a x) (a + 1) y ≡ spliced l a b c m x y
-  unfolding spliced
-  spliced_two m z h =
-      let n : ℕ = c - b in
-      let w : List ℕ = take n (drop b l) ++ (replicate (c - (a + m + n)) 0 ++ drop (a + m + n + (c - (a + m + n))) l) in
-      let e : a + m ≡ suc (suc a) = omega arith in
-      let p : take (a + m) l ≡ take a l ++ (get_or l a 0 ∷ []) ++ (get_or l (suc a) 0 ∷ []) =
-      ap (λ (k : ℕ). take k l) e ∙ take-suc l (suc a) 0 (omega arith) ∙ ap (λ (k : List ℕ). k ++ (get_or l (suc a) 0 ∷ [])) (take-suc l a 0 (omega arith)) in
-      let q : take m (x ∷ y ∷ []) ≡ x ∷ y ∷ [] = rw z refl in
-      let la : length (take a l) ≡ a = length-take-le a l (omega arith) in
-      let lx : length (take a l ++ (x ∷ [])) ≡ a + 1 = rw (length-append, la) in
-      rw (tail_moved l b (a + m) n (c - (a + m + n)) h (omega arith), p, q, append_assoc (take a l ++ (get_or l a 0 ∷ [])) (get_or l (suc a) 0 ∷ []) w, append_assoc (take a l) (get_or l a 0 ∷ []) (get_or l (suc a) 0 ∷ w), set_at (take a l) (get_or l a 0) (get_or l (suc a) 0 ∷ w) x a la)
-      (ap (λ (k : List ℕ). set k (a + 1) y) (sym (append_assoc (take a l) (x ∷ []) (get_or l (suc a) 0 ∷ w)))
-      ∙ set_at (take a l ++ (x ∷ [])) (get_or l (suc a) 0) w y (a + 1) lx
-      ∙ append_assoc (take a l) (x ∷ []) (y ∷ w))
+  -- the column with what is behind the cut moved, and with what is behind that cleared
+  abbrev pub moved : List ℕ
+  moved = take tail l ++ take n (drop b l) ++ drop (tail + n) l
+
+  abbrev pub cleared : List ℕ
+  cleared = take (tail + n) moved ++ (replicate (c - (tail + n)) 0 ++ drop (tail + n + (c - (tail + n))) moved)
+
+  -- what stands behind the new numbers
+  abbrev behind : List ℕ
+  behind = take n (drop b l) ++ (replicate (c - (tail + n)) 0 ++ drop (tail + n + (c - (tail + n))) l)
+
+  pub length-moved : length moved ≡ length l
+  length-moved = length-paste l tail (drop b l) n (omega arith) (rw length-drop (omega arith))
+
+  cleared_is : cleared ≡ take tail l ++ behind
+  cleared_is =
+      let k : n ≤ length (drop b l) = rw length-drop (omega arith) in
+      let d : ℕ = c - (tail + n) in
+      let e : drop (tail + n + d) moved ≡ drop (tail + n + d) l =
+      sym (drop-drop d (tail + n) moved) ∙ ap (drop d) (drop-paste l tail (drop b l) n (omega arith) k) ∙ drop-drop d (tail + n) l in
+      rw (take-paste l tail (drop b l) n (omega arith) k, e) (append_assoc (take tail l) (take n (drop b l)) (replicate d 0 ++ drop (tail + n + d) l))
+
+  -- where nothing is left to clear
+  pub cleared_none : c ≤ tail + n → moved ≡ cleared
+  cleared_none z =
+      let d : c - (tail + n) ≡ 0 = omega arith in
+      let e : tail + n + 0 ≡ tail + n = omega arith in
+      rw (d, e) (sym (take-append-drop (tail + n) moved))
+
+  pub cleared_put : (p : List ℕ) → p ≡ replicate (length (take (c - (tail + n)) (drop (tail + n) moved))) 0 → tail + n < c → put_mid (tail + n) (c - (tail + n)) moved p ≡ cleared
+  cleared_put p e z =
+      let m : length (take (c - (tail + n)) (drop (tail + n) moved)) ≡ c - (tail + n) = length-take-le _ (drop (tail + n) moved) (rw (length-drop, length-moved) (omega arith)) in
+      rw (e, m, drop-drop (c - (tail + n)) (tail + n) moved)
+
+  pub spliced_put : (m : ℕ) → m ≡ length xs → put_mid a m cleared xs ≡ spliced_by xs l a b c
+  unfolding spliced_by
+  spliced_put m z =
+      let f : take (a + length xs) l ≡ take a l ++ take (length xs) (drop a l) = take-add a (length xs) l in
+      let w = length-take-le a l (omega arith) in
+      let v = length-take-le (length xs) (drop a l) (rw length-drop (omega arith)) in
+      rw (z, cleared_is, f, append_assoc (take a l) (take (length xs) (drop a l)) behind)
+      (put_at a (length xs) (take a l) (take (length xs) (drop a l)) behind xs w v)
+
+-- the new numbers are two at most
+pub spliced_is : (l : List ℕ) (a b c m x y : ℕ) → m ≤ 2 → spliced_by (take m (x ∷ y ∷ [])) l a b c ≡ spliced l a b c m x y
+unfolding spliced spliced_by
+spliced_is l a b c m x y h = rw (length-take-le m (x ∷ y ∷ []) h)
 
 pub length-spliced : (l : List ℕ) (a b c m x y : ℕ) → b ≤ c → c ≤ length l → m ≤ 2 → a + m + (c - b) ≤ length l → length (spliced l a b c m x y) ≡ length l
 unfolding spliced

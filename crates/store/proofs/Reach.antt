@@ -3,7 +3,6 @@
 -- Assumes nothing.
 use mathlib.Core.Path.{◌≡◌, refl, sym, ap, ◌∙◌, subst}
 use mathlib.Core.Logic.{◌≢◌, ⊎_elim}
-use mathlib.Core.Bool.{Bool, true, false, cond}
 use mathlib.Core.List.{List, ◌∷◌}
 use Prim.Native.Nat.{ℕ, zero, suc, ◌+◌, ◌-◌, ◌≤◌, ◌<◌}
 use native.Mathlib.Omega.{arith}
@@ -14,10 +13,11 @@ use lib.Seq.{get_or-drop}
 use borrow.Author.Tests.{ne_eqb, eq-eqb, eqb-true, eqb-false, ltb-true, ltb-false, leb-true, leb-false}
 use Rattle.store.specs.Model.{serials, interval_first, interval_last}
 use Rattle.store.specs.Table.{part, store_of, valid}
-use Rattle.store.specs.Calls.{reply, checked, guard_interval, interval_of, found_interval}
+use Rattle.store.specs.Calls.{checked, interval_of, found_interval}
 use Rattle.store.specs.Words.{place, ends, found, interval_words}
-use Rattle.store.specs.declared.Interval.{Interval}
-use Rattle.store.specs.declared.Reply.{Reply}
+use Rattle.store.specs.Calls.{IntervalReply}
+use Rattle.store.specs.Answers.{nothing, as_reply}
+use Rattle.std.specs.Prelude.{Ok}
 use Rattle.store.proofs.Bools.{decide, cond_elim}
 use Rattle.store.proofs.Segments.{Stands, over, then, cut, place_zeros}
 use Rattle.store.proofs.SearchLaws.{ends_none, ends_before, found_guard}
@@ -161,16 +161,7 @@ module _ (n : ℕ) (t : List ℕ) (w : length t ≡ 1280) (v : T (valid n t)) (e
 
 -- ---- the call that tests the table first
 
-module _ (t : List ℕ) (e : ℕ) (r : Reply) (is : r ≡ checked serials t) where
-  pub interval_refused : (r.code ≡ 0 → ⊥) → guard_interval r.code 0 0 0 ≡ found_interval e t
-  interval_refused h = by (eqb (length t) 1280) (valid serials t) (ap (λ (x : Reply). x.code) is)
-    where
-      by : (a b : Bool) → r.code ≡ (cond a (cond b (reply 0 0 0) (reply 22 0 0)) (reply 21 0 0)).code → guard_interval r.code 0 0 0 ≡ cond a (cond b (interval_of e (store_of t)) (guard_interval 22 0 0 0)) (guard_interval 21 0 0 0)
-      by true true z = absurd (h z)
-      by true false z = rw z
-      by false b z = rw z
-
-  pub interval_finished : r.code ≡ 0 → e < 256 → (x : Interval) → x ≡ interval_words e t → x ≡ found_interval e t
-  interval_finished z h x ex =
-      let o = passed t r is z in
-      ex ∙ rw (o.0, o.1) (interval_right serials t (eqb-true (length t) 1280 o.0) (rw o.1 tt) e h)
+pub interval_finished : (t : List ℕ) (e : ℕ) → as_reply nothing (Ok tt) ≡ checked serials t → e < 256 → (x : IntervalReply) → x ≡ interval_words e t → x ≡ found_interval e t
+interval_finished t e z h x ex =
+    let o = passed t z in
+    ex ∙ rw (o.0, o.1) (interval_right serials t (eqb-true (length t) 1280 o.0) (rw o.1 tt) e h)

@@ -14,9 +14,37 @@ use Rattle.store.specs.Table.{store_of, valid}
 use Rattle.store.specs.Calls.{reply, Result, refusal, outcome, bad_serial, Done, done, encoded, called, made_fresh, install, read, commit, split, merge, restart, set_guard, write, guard_interval, found_interval}
 use Rattle.store.specs.Words.{tested, install_words, read_words, commit_words, split_words, merge_words, restart_words, interval_words}
 use Rattle.store.specs.declared.Range.{Range}
-use Rattle.store.specs.declared.Interval.{Interval}
+use Rattle.store.specs.Calls.{IntervalReply}
+use Rattle.store.specs.Refusals.{number_of}
+use Rattle.store.specs.declared.refusal.Refusal.{Refusal}
+use Rattle.store.specs.declared.refusal.Refusal.TheVariants.{WrongLength, BrokenRule, NoMark, CutShort, UnknownField, UnknownKind, WrongFields, OutOfRange, NotOwner, NoLiveGuard, AlreadyRequested, NoSuchRequest, NoSerialLeft, WrongBoundary, BufferShort, TooLong, NoPlaceLeft, NoAnsweredRead}
 use Rattle.store.proofs.Bools.{cond_both}
 use Rattle.store.proofs.Tables.{table_store}
+
+-- ---- the numbers
+
+pub number_of-least : (r : Refusal) → 21 ≤ number_of r
+number_of-least WrongLength = omega arith
+number_of-least BrokenRule = omega arith
+number_of-least NoMark = omega arith
+number_of-least CutShort = omega arith
+number_of-least UnknownField = omega arith
+number_of-least UnknownKind = omega arith
+number_of-least WrongFields = omega arith
+number_of-least OutOfRange = omega arith
+number_of-least NotOwner = omega arith
+number_of-least NoLiveGuard = omega arith
+number_of-least AlreadyRequested = omega arith
+number_of-least NoSuchRequest = omega arith
+number_of-least NoSerialLeft = omega arith
+number_of-least WrongBoundary = omega arith
+number_of-least BufferShort = omega arith
+number_of-least TooLong = omega arith
+number_of-least NoPlaceLeft = omega arith
+number_of-least NoAnsweredRead = omega arith
+
+pub number_of-positive : (r : Refusal) → number_of r ≡ 0 → ⊥
+number_of-positive r e = omega (arith, number_of-least r, e)
 
 -- ---- by the rules: a refusal leaves the store
 
@@ -89,7 +117,7 @@ module _ (t : List ℕ) where
 
 -- ---- the call that finds an interval, which leaves the table: its number and zeros
 
-pub record NoInterval (x : Interval) : Type 0 where
+pub record NoInterval (x : IntervalReply) : Type 0 where
   pub none : 21 ≤ x.code → x ≡ guard_interval x.code 0 0 0
 
 no_interval : (n : ℕ) → NoInterval (guard_interval n 0 0 0)

@@ -4,7 +4,7 @@ use mathlib.Core.Path.{◌≡◌, refl, sym, ap, ◌∙◌}
 use mathlib.Core.Logic.{⊎_elim}
 use mathlib.Core.Bool.{true, false}
 use mathlib.Core.List.{List, [], ◌∷◌}
-use Prim.Native.Nat.{ℕ, ◌+◌, ◌-◌, ◌≤◌, ◌<◌}
+use Prim.Native.Nat.{ℕ, ◌+◌, ◌-◌, ◌<◌}
 use native.Mathlib.Omega.{arith}
 use native.Mathlib.Nat.{zero-add}
 use lib.Dec.{leb, eqb}
@@ -13,10 +13,8 @@ use lib.Seq.{drop-cons}
 use borrow.Author.Tests.{eq-eqb, ne_eqb, lt-ltb, le-ltb, leb-true, leb-false}
 use Rattle.store.specs.Table.{part, seek, guard_at, store_of}
 use Rattle.store.specs.Words.{place, ends, span, found, found_in}
-use Rattle.store.specs.declared.Span.{Span}
 use Rattle.store.proofs.Bools.{decide}
 use Rattle.store.proofs.Parts.{length-part, part_at}
-use Rattle.store.proofs.Segments.{place-length}
 
 -- ---- where it ends
 
@@ -31,19 +29,9 @@ ends_before s z = rw (ne_eqb s 0 z)
 -- at the interval with the ordinal k
 pub found_is :
     (t : List ℕ) (from e k x : ℕ) → k ≡ from + place (e + 1) (drop (from + 1) (part 256 t)) → k < 256 → x ≡ ends (get_or (part 256 t) (k + 1) 0)
-    → span k (get_or t (512 + k) 0) (get_or t (256 + k) 0) x ≡ found_in t from e
+    → span k (get_or t (512 + k) 0) (get_or (part 256 t) k 0) x ≡ found_in t from e
 unfolding found
-found_is t from e k x here h last = rw (← here, last, part_at 256 t k h, part_at 512 t k h)
-
--- from where it begins on, and within the table
-pub found_lies : (t : List ℕ) → length t ≡ 1280 → (k e : ℕ) → k < 256 → (x : Span) → x ≡ found_in t k e → (k ≤ x.ordinal) × (x.ordinal < 256)
-unfolding found
-found_lies t w k e h x ex =
-    let i = ap (λ (y : Span). y.ordinal) ex in
-    let l = place-length (e + 1) (drop (k + 1) (part 256 t)) in
-    let m = length-drop (k + 1) (part 256 t) in
-    let n = length-part 256 t (omega arith) in
-    (omega arith, omega arith)
+found_is t from e k x here h last = rw (← here, last, part_at 512 t k h)
 
 -- ---- the guard that it finds
 

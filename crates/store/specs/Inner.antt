@@ -1,15 +1,13 @@
 -- What the private functions do that move numbers within a column, and those that test the guard intervals. No public contract cites these.
 -- Assumes nothing.
-use Rattle.std.specs.Prelude.{◌≡◌, Bool, not, ◌&&◌, List, ◌++◌, ℕ, ◌+◌, ◌≤◌, ◌<◌, ltb, eqb, get_or, take, drop, replicate}
+use Rattle.std.specs.Prelude.{◌≡◌, Bool, not, ◌&&◌, List, ◌++◌, ℕ, ◌+◌, ◌-◌, ◌≤◌, ◌<◌, ltb, eqb, length, get_or, take, drop, replicate}
 use Rattle.store.specs.Table.{guard_holds}
 
--- the list l with its n numbers from b on put at k
-unfoldable pub moved : List ℕ → ℕ → ℕ → ℕ → List ℕ
-moved l b k n = take k l ++ take n (drop b l) ++ drop (k + n) l
-
--- the list l with n zeros from k on
-unfoldable pub cleared : List ℕ → ℕ → ℕ → List ℕ
-cleared l k n = take k l ++ (replicate n 0 ++ drop (k + n) l)
+-- the column l, of which c places are in use, with the numbers of xs in the place of those from a up to b
+unfoldable pub spliced_by : List ℕ → List ℕ → ℕ → ℕ → ℕ → List ℕ
+spliced_by xs l a b c =
+    let e = a + length xs + (c - b) in
+    take a l ++ (xs ++ (take (c - b) (drop b l) ++ (replicate (c - e) 0 ++ drop (e + (c - e)) l)))
 
 -- of the places that hold the starts ss, the first r are used: after place 0, those before the first whose start is 0
 pub record Used (ss : List ℕ) (r : ℕ) : Type 0 where

@@ -1,29 +1,17 @@
 // The table of a fresh store.
-ghost use Rattle.std.specs.Prelude.{◌≡◌, length, replicate};
+ghost use Rattle.std.specs.Prelude.{◌≡◌};
 ghost use Rattle.store.specs.Model.{fresh};
-ghost use Rattle.store.specs.Table.{table_of, store_words};
+ghost use Rattle.store.specs.Table.{table_of};
 
-use crate::words;
-
-// A column of 256 zeros.
-fn lay_zeros(part: &mut [u32])
-    requires { length part.old ≡ 256 }
-    ensures { part.new ≡ replicate 256 0 }
-{
-    let zeros = [0u32; 256];
-    words::copy(part, &zeros);
-}
+use crate::{Table, layout, words};
 
 // One tablet, and zeros in all five columns elsewhere: an open guard everywhere is one interval, from entry 0 on.
-pub(crate) fn lay_store(store: &mut [u32])
-    requires { length store.old ≡ store_words }
+pub(crate) fn lay_store(store: &mut Table)
     ensures { store.new ≡ table_of fresh }
 {
-    let mut k: usize = 0;
-    while k < 5 {
-        let b = k * 256;
-        lay_zeros(&mut store[b..b + 256]);
-        k += 1;
+    for column in 0..5 {
+        let b = column * layout::ENTRIES;
+        words::lay::<{ layout::ENTRIES }>(&mut store[b..b + layout::ENTRIES], 0);
     }
     store[0] = 1;
 }

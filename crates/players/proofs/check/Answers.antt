@@ -1,36 +1,34 @@
 -- `players::check` meets its contract.
 -- Assumes nothing.
-use mathlib.Core.Path.{sym, ◌∙◌}
-use native.Mathlib.Omega.{arith}
-use Rattle.players.proofs.CheckLaws.{players_long, check_short, check_store, check_players, check_good}
+use mathlib.Core.Path.{◌≡◌, sym, ap, ◌∙◌}
+use mathlib.Core.Bool.{true, false}
+use Rattle.std.proofs.lemmas.Result.{err_from_is_err_and}
+use Rattle.std.proofs.Common.{rules, length, Err}
+use Rattle.players.proofs.CheckLaws.{check_store, check_players}
 use Rattle.players.proofs.check.Goals as goal
 
-pub returns-then-not-whole : goal.returns-then-not-whole
-returns-then-not-whole c =
+pub returns-in_err-check_at : goal.returns-in_err-check_at
+returns-in_err-check_at c =
     let a = c.args in
-    check_short a.store.now a.players.now (sym c.whole.ensures ∙ c.if-not-whole.true) _ c.refuse.ensures
-
-pub bounds-players-0 : goal.bounds-players-0
-bounds-players-0 c =
-    let a = c.args in
-    let l = players_long a.store.now a.players.now (sym c.whole.ensures ∙ c.if-not-whole.false) in omega arith
-
-pub returns-then-tested-ne0 : goal.returns-then-tested-ne0
-returns-then-tested-ne0 c =
-    let a = c.args in
-    c.refuse-then-tested-ne0.ensures ∙ check_store a.store.now a.players.now (sym c.whole.ensures ∙ c.if-not-whole.false) _ c.check_at-tested.ensures c.if-tested-ne0.true
-
-pub players_hold-requires : goal.players_hold-requires
-players_hold-requires c =
-    let a = c.args in
-    players_long a.store.now a.players.now (sym c.whole.ensures ∙ c.if-not-whole.false)
+    let p = c.in-Some.players.now in
+    let x = err_from_is_err_and c.from_residual.result c.from_residual.ensures.1 in
+    let e : c.from_residual.result ≡ Err c.in_err-check_at.field-0.0 = x.1 ∙ ap Err x.2 in
+    let t : p ≡ a.players.now = search rules in
+    let l : length p ≡ 9489 = search rules in
+    rw (e, ← t) (check_store a.store.now p l c.check_at.result c.check_at.ensures _ c.in_err-check_at.was)
 
 pub returns-then-not-players_hold : goal.returns-then-not-players_hold
 returns-then-not-players_hold c =
     let a = c.args in
-    c.refuse-then-not-players_hold.ensures ∙ check_players a.store.now a.players.now (sym c.whole.ensures ∙ c.if-not-whole.false) _ c.check_at-tested.ensures c.if-tested-ne0.false (sym c.players_hold.ensures ∙ c.if-not-players_hold.true)
+    let p = c.in-Some.players.now in
+    let t : p ≡ a.players.now = search rules in
+    let l : length p ≡ 9489 = search rules in
+    rw (← t) (check_players a.store.now p l c.check_at.result c.check_at.ensures _ c.in_ok-check_at.was false (sym c.if-not-players_hold.true ∙ c.players_hold.ensures))
 
 pub returns : goal.returns
 returns c =
     let a = c.args in
-    c.done.ensures ∙ check_good a.store.now a.players.now (sym c.whole.ensures ∙ c.if-not-whole.false) _ c.check_at-tested.ensures c.if-tested-ne0.false (sym c.players_hold.ensures ∙ c.if-not-players_hold.false)
+    let p = c.in-Some.players.now in
+    let t : p ≡ a.players.now = search rules in
+    let l : length p ≡ 9489 = search rules in
+    rw (← t) (check_players a.store.now p l c.check_at.result c.check_at.ensures _ c.in_ok-check_at.was true (sym c.if-not-players_hold.false ∙ c.players_hold.ensures))

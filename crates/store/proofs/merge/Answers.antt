@@ -1,15 +1,8 @@
--- `store::merge` meets its contract.
--- Assumes nothing.
+use Rattle.std.proofs.Common.{arith}
 use Rattle.store.specs.Calls.{merge}
-use native.Mathlib.Omega.{arith}
-use Rattle.store.proofs.CallLaws.{refused, finished}
+use Rattle.store.proofs.CallLaws.{finished}
 use Rattle.store.proofs.WordLaws.{merge_refines}
 use Rattle.store.proofs.merge.Goals as goal
 
-pub returns-then-tested-ne0 : goal.returns-then-tested-ne0
-returns-then-tested-ne0 c =
-    let a = c.args in
-    refused c.args.store.now c.check-tested.result c.check-tested.ensures (merge a.entry) c.if-tested-ne0.true
-
 pub returns : goal.returns
-returns c = finished c.args.store.now c.check-tested.result c.check-tested.ensures c.if-tested-ne0.false _ _ _ (merge_refines c.args.entry (omega arith) c.merge.ensures)
+returns c = finished c.args.store.now c.in_ok-check.ensures (merge c.args.entry) _ _ (merge_refines c.args.entry (omega arith) c.merge.ensures)

@@ -1,15 +1,8 @@
--- `store::read` meets its contract.
--- Assumes nothing.
+use Rattle.std.proofs.Common.{arith}
 use Rattle.store.specs.Calls.{read}
-use native.Mathlib.Omega.{arith}
-use Rattle.store.proofs.CallLaws.{refused, finished}
+use Rattle.store.proofs.CallLaws.{finished}
 use Rattle.store.proofs.WordLaws.{read_refines}
 use Rattle.store.proofs.read.Goals as goal
 
-pub returns-then-tested-ne0 : goal.returns-then-tested-ne0
-returns-then-tested-ne0 c =
-    let a = c.args in
-    refused c.args.store.now c.check-tested.result c.check-tested.ensures (read a.entry) c.if-tested-ne0.true
-
 pub returns : goal.returns
-returns c = finished c.args.store.now c.check-tested.result c.check-tested.ensures c.if-tested-ne0.false _ _ _ (read_refines c.args.entry (omega arith) c.read.ensures)
+returns c = finished c.args.store.now c.in_ok-check.ensures (read c.args.entry) _ _ (read_refines c.args.entry (omega arith) c.read.ensures)

@@ -1,24 +1,15 @@
--- `store::write` meets its contract.
--- Assumes nothing.
-use mathlib.Core.Path.{sym, ◌∙◌}
-use native.Mathlib.Omega.{arith}
-use Rattle.store.specs.Calls.{write, commit}
-use Rattle.store.proofs.CallLaws.{refused, wrong_serial, good_serial}
+use Rattle.std.proofs.Common.{arith, sym, ◌∙◌}
+use Rattle.store.specs.Calls.{commit}
+use Rattle.store.proofs.CallLaws.{wrong_serial, good_serial}
 use Rattle.store.proofs.WordLaws.{commit_refines}
 use Rattle.store.proofs.write.Goals as goal
-
-pub returns-then-tested-ne0 : goal.returns-then-tested-ne0
-returns-then-tested-ne0 c =
-    let a = c.args in
-    refused a.store.now c.check-tested.result c.check-tested.ensures (write a.entry a.value a.serial a.guard) c.if-tested-ne0.true
 
 pub returns-then-bad_serial : goal.returns-then-bad_serial
 returns-then-bad_serial c =
     let a = c.args in
-    rw c.refuse.ensures
-    (wrong_serial a.store.now c.check-tested.result c.check-tested.ensures c.if-tested-ne0.false (commit a.entry a.value a.serial a.guard) a.serial (sym c.bad_serial.ensures ∙ c.if-bad_serial.true))
+    wrong_serial a.store.now c.in_ok-check.ensures (commit a.entry a.value a.serial a.guard) a.serial (sym c.bad_serial.ensures ∙ c.if-bad_serial.true)
 
 pub returns : goal.returns
 returns c =
     let a = c.args in
-    good_serial a.store.now c.check-tested.result c.check-tested.ensures c.if-tested-ne0.false (commit a.entry a.value a.serial a.guard) a.serial (sym c.bad_serial.ensures ∙ c.if-bad_serial.false) _ _ (commit_refines a.entry (omega arith) a.value a.serial a.guard c.commit.ensures)
+    good_serial a.store.now c.in_ok-check.ensures (commit a.entry a.value a.serial a.guard) a.serial (sym c.bad_serial.ensures ∙ c.if-bad_serial.false) _ _ (commit_refines a.entry (omega arith) a.value a.serial a.guard c.commit.ensures)

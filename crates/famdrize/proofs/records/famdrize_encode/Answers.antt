@@ -3,16 +3,17 @@
 use mathlib.Core.Path.{◌∙◌, sym, ap}
 use Rattle.store.specs.declared.Reply.{Reply}
 use Rattle.session.specs.Written.{wrote}
+use Rattle.famdrize.specs.Fields.{stated_of}
 use Rattle.famdrize.proofs.FieldLaws.{on_taken, on_refused}
 use Rattle.famdrize.proofs.records.famdrize_encode.Goals as goal
 
-pub returns-in-Taken : goal.returns-in-Taken
-returns-in-Taken c =
+pub returns-in-Ok : goal.returns-in-Ok
+returns-in-Ok c =
     ap (λ (r : Reply). wrote r c.encode.new.out) c.given.ensures
     ∙ c.encode.ensures
-    ∙ sym (on_taken _ _ c.step_of-stated.ensures _ _ c.in-Taken.step c.in-Taken.is)
+    ∙ sym (on_taken _ _ c.step_of.ensures _ _ c.in-Ok.step (ap stated_of c.in-Ok.is))
 
-pub returns-in-Refused : goal.returns-in-Refused
-returns-in-Refused c =
+pub returns-in-Err : goal.returns-in-Err
+returns-in-Err c =
     ap (λ (r : Reply). wrote r c.args.out.now) c.refuse.ensures
-    ∙ sym (on_refused _ _ c.step_of-stated.ensures _ _ c.in-Refused.code c.in-Refused.is)
+    ∙ sym (on_refused _ _ c.step_of.ensures _ _ _ (ap stated_of c.in-Err.is))

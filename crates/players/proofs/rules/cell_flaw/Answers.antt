@@ -7,4 +7,4 @@ use Rattle.players.proofs.rules.cell_flaw.Goals as goal
 pub returns : goal.returns
 returns c =
     let a = c.args in
-    c.flaw.ensures ∙ sym (cached_at_is a.players.now c.requires.0 a.i c.requires.1 a.player a.entry c.requires.2)
+    c.flaw.ensures ∙ sym (cached_at_is a.players.now c.told-players a.i c.requires.0 a.player a.entry c.requires.1)

@@ -1,17 +1,9 @@
--- `players::rules::values_hold` meets its contract. The loop's invariant: the running number stands for the player and the entry that are
--- carried along; and that no bit tells of the cells before, with the test of the rest, is the test of the whole.
--- Assumes nothing.
-use mathlib.Core.Path.{◌≡◌}
-use mathlib.Core.Bool.{◌&&◌}
-use Prim.Native.Nat.{◌≤◌, ◌-◌}
-use lib.Dec.{eqb}
-use Rattle.players.specs.Table.{cell_count, StandsFor}
+-- The running number stands for the player and the entry that are carried along; all cells keep their rule where no bit tells of those before, and those left keep it.
+use Rattle.std.proofs.Common.{◌≡◌}
+use Rattle.std.specs.Prelude.{◌&&◌, eqb}
+use Rattle.players.specs.Table.{StandsFor}
 use Rattle.players.proofs.CheckLaws.{rest_holds}
 use Rattle.players.proofs.rules.values_hold.Given as goal
 
 abbrev pub invariant-loop-i : goal.invariant-loop-i
-invariant-loop-i l =
-    (l.i ≤ cell_count) × StandsFor l.i l.player l.entry × ((eqb l.flaws 0 && rest_holds l.players l.i) ≡ rest_holds l.players 0)
-
-abbrev pub decreases-loop-i : goal.decreases-loop-i
-decreases-loop-i l = cell_count - l.i
+invariant-loop-i l = StandsFor l.i l.player l.entry × (rest_holds l.players 0 ≡ (eqb l.flaws 0 && rest_holds l.players l.i))

@@ -1,5 +1,4 @@
--- `requests::places::drop_first` meets its contract. The loop's invariant: the words up to `i` are those 12 further on.
--- Assumes nothing.
+-- the words up to `i` are those 12 further on.
 use Prim.Native.Nat.{◌≤◌, ◌-◌}
 use lib.ListN.{length}
 use Rattle.requests.proofs.WordLaws.{Shifted}

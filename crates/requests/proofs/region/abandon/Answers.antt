@@ -1,21 +1,9 @@
--- `requests::region::abandon` meets its contract: a case at each return.
--- Assumes nothing.
-use mathlib.Core.Path.{refl}
-use native.Mathlib.Omega.{arith}
-use Rattle.requests.proofs.CallLaws.{other_abandoned, no_abandoned, abandoned_done}
+use Rattle.std.proofs.Common.{refl, sym, ◌∙◌}
+use Rattle.requests.specs.Region.{whole}
+use Rattle.requests.specs.Calls.{with_abandoned}
+use Rattle.requests.proofs.Basics.{both_left}
 use Rattle.requests.proofs.region.abandon.Goals as goal
 
-pub returns-then-region-ne-WORDS : goal.returns-then-region-ne-WORDS
-returns-then-region-ne-WORDS c =
-    let a = c.args in
-    other_abandoned a.region.now c.if-region-ne-WORDS.true a.k
-
-pub returns-then-k-ge-PLACES : goal.returns-then-k-ge-PLACES
-returns-then-k-ge-PLACES c =
-    let a = c.args in
-    no_abandoned a.region.now c.if-region-ne-WORDS.false a.k (omega arith)
-
-pub returns : goal.returns
-returns c =
-    let a = c.args in
-    abandoned_done a.region.now c.if-region-ne-WORDS.false a.k _ refl
+pub returns-then-has_place : goal.returns-then-has_place
+unfolding with_abandoned
+returns-then-has_place c = rw (both_left (whole c.args.region.now) _ (sym c.has_place.ensures ∙ c.if-has_place.true)) refl

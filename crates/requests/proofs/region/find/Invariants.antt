@@ -1,13 +1,11 @@
--- `requests::region::find` meets its contract. The loop's invariant: the search among the requests that are left is that among all.
--- Assumes nothing.
-use mathlib.Core.Path.{◌≡◌}
-use Prim.Native.Nat.{◌≤◌, ◌-◌}
-use Rattle.requests.specs.Calls.{found_from, found}
-use Rattle.requests.proofs.ScanLaws.{from}
+use Rattle.std.proofs.Common.{◌≡◌, ◌+◌, length}
+use Rattle.requests.specs.Region.{requests_of}
+use Rattle.requests.specs.Calls.{found, found_from}
 use Rattle.requests.proofs.region.find.Given as goal
 
-abbrev pub invariant-loop-k : goal.invariant-loop-k
-invariant-loop-k l = (l.k ≤ 64) × (found_from l.fit l.serial l.k (from l.region l.k) ≡ found l.fit l.serial l.region)
-
-abbrev pub decreases-loop-k : goal.decreases-loop-k
-decreases-loop-k l = 64 - l.k
+-- what is found among all is what is found among those left
+abbrev pub invariant-loop-request : goal.invariant-loop-request
+invariant-loop-request l =
+    (goal.iterator-loop-request).can_next l.request-iterator × (goal.iterator-loop-request).is_finite l.request-iterator
+    × (l.place + length l.request-iterator ≡ length (requests_of l.region))
+    × (found l.fit l.serial l.region ≡ found_from l.fit l.serial l.place l.request-iterator)

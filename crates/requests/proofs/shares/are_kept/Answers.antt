@@ -1,8 +1,5 @@
--- `requests::shares::are_kept` meets its contract.
--- Assumes nothing.
-use mathlib.Core.Path.{ap}
-use Prim.Native.Nat.{ℕ}
-use lib.Dec.{leb}
+use Rattle.std.proofs.Common.{ℕ, ap}
+use Rattle.std.specs.Prelude.{leb}
 use Rattle.requests.specs.Shares.{common_places}
 use Rattle.requests.proofs.shares.are_kept.Goals as goal
 

@@ -1,14 +1,9 @@
 -- `steps::cells::drop_guard` meets its contract. The loop's invariant: what is left to be done is all that is to be done.
 -- Assumes nothing.
 use mathlib.Core.Path.{◌≡◌}
-use Prim.Native.Nat.{◌+◌, ◌≤◌, ◌-◌, ◌*◌}
-use lib.ListN.{length}
-use Rattle.players.specs.Table.{players_words}
+use Prim.Native.Nat.{◌+◌, ◌-◌, ◌*◌}
 use Rattle.steps.specs.InnerWords.{dropped}
 use Rattle.steps.proofs.cells.drop_guard.Given as goal
 
 abbrev pub invariant-loop-k : goal.invariant-loop-k
-invariant-loop-k l = (l.k ≤ 64) × (length l.players ≡ players_words) × (dropped l.guard (l.player * 256 + l.k * 4) (256 - l.k * 4) l.players ≡ dropped l.guard (l.player * 256) 256 l.initial.players)
-
-abbrev pub decreases-loop-k : goal.decreases-loop-k
-decreases-loop-k l = 64 - l.k
+invariant-loop-k l = dropped l.guard (l.fn.player * 256 + l.k * 4) (256 - l.k * 4) l.players ≡ dropped l.guard (l.fn.player * 256) 256 l.initial.players

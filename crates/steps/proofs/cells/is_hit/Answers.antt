@@ -1,14 +1,9 @@
--- `steps::cells::is_hit` meets its contract.
+-- `steps::cells::is_hit` meets its contract where something is cached.
 -- Assumes nothing.
-use Rattle.steps.proofs.WordLaws.{no_hit, same_guard}
+use Rattle.steps.proofs.WordLaws.{same_guard}
 use Rattle.steps.proofs.cells.is_hit.Goals as goal
 
-pub returns-then-guard-eq0 : goal.returns-then-guard-eq0
-returns-then-guard-eq0 c =
+pub returns-then-guard-ne0 : goal.returns-then-guard-ne0
+returns-then-guard-ne0 c =
     let a = c.args in
-    no_hit a.players.now a.player a.entry c.if-guard-eq0.true
-
-pub returns : goal.returns
-returns c =
-    let a = c.args in
-    same_guard a.players.now a.player a.entry c.if-guard-eq0.false _ c.live_guard.ensures
+    rw c.cell.ensures.cell (same_guard a.players.now a.player a.entry (rw c.cell.ensures.cell at c.if-guard-ne0.true) _ c.live_guard.ensures)

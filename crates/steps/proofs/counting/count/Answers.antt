@@ -6,4 +6,4 @@ use Rattle.steps.proofs.counting.count.Goals as goal
 pub returns : goal.returns
 returns c =
     let a = c.args in
-    counted_words a.player a.code a.players.now _ c.count.ensures
+    counted_words a.player a.code a.players.now _ (rw c.from.ensures at c.count.ensures)

@@ -1,14 +1,10 @@
 -- `steps::issuing::add` meets its contract.
 -- Assumes nothing.
 use mathlib.Core.Path.{ap}
-use native.Mathlib.Omega.{arith}
-use lib.ListN.{set, length-set}
+use lib.ListN.{set}
 use borrow.Rule.Slice.PartMut.{put_mid}
 use Rattle.steps.specs.InnerWords.{added}
 use Rattle.steps.proofs.issuing.add.Goals as goal
-
-pub slice_bounds-put-end : goal.slice_bounds-put-end
-slice_bounds-put-end c = simp length-set (omega arith)
 
 pub returns : goal.returns
 unfolding added

@@ -1,92 +1,78 @@
 -- `steps::issuing::request_guard` meets its contract: a case at each return.
 -- Assumes nothing.
-use mathlib.Core.Path.{sym, ◌∙◌}
-use lib.Dec.{lit≤}
-use Rattle.steps.proofs.IssuingLaws.{Cells, cells_of, Asks, has_last, has_requests, is_player, request_player, request_empty, request_high, request_owner, request_again, request_full, request_spent, next_fits, request_done}
+use mathlib.Core.Path.{◌≡◌, refl, sym, ap, ◌∙◌}
+use mathlib.Core.Bool.{false}
+use Prim.Native.Nat.{ℕ}
+use Rattle.std.specs.Prelude.{Err}
+use Rattle.std.proofs.lemmas.Result.{err_from_is_err_and}
+use Rattle.requests.specs.Model.{new_request}
+use Rattle.players.specs.Replies.{refusal, issued}
+use Rattle.players.specs.Rules.{step}
+use Rattle.players.specs.declared.Step.TheVariants.{RequestGuard}
+use Rattle.steps.specs.InnerWords.{Moves}
+use Rattle.steps.proofs.AnswerLaws.{no_player, a_player, bad_entries, good_entries, no_request, a_request}
+use Rattle.steps.proofs.IssuingLaws.{Asks, request_player, request_bad, request_owner, request_again, request_full, request_spent, request_done}
 use Rattle.steps.proofs.issuing.request_guard.Goals as goal
-use Rattle.steps.proofs.issuing.request_guard.Goals.{Else-not-all_are}
+use Rattle.steps.proofs.issuing.request_guard.Goals.{Else-not-owns_all}
 
-asks : (c : Else-not-all_are) → Asks c.args.players.now c.args.player c.args.range
+asks : (c : Else-not-owns_all) → Asks c.args.players.now c.args.player c.args.range
 asks c =
+    let p = a_player c.args.player _ (sym c.try_from.ensures ∙ c.in_ok-asker.was) in
+    let g = good_entries c.args.range _ (sym c.try_from-2.ensures ∙ c.in_ok-entries.was) in
     record {
-      long = c.requires;
-      player = is_player _ c.if-player-gt-LAST_PLAYER.false;
-      some = c.if-low-high.false;
-      within = c.if-high-gt-ENTRIES.false;
-      own = sym c.if-not-all_are.false ∙ c.all_are.ensures;
+      long = c.told-players;
+      player = p.1;
+      some = g.1;
+      within = g.2;
+      own = sym c.if-not-owns_all.false ∙ (rw (p.0, g.0) at c.owns_all.ensures);
     }
 
-cells : (c : Else-not-all_are) → Cells c.args.player c.args.range.low c.args.range.high
-cells c = let k = asks c in cells_of _ _ _ k.player k.some k.within
-
-pub returns-then-player-gt-LAST_PLAYER : goal.returns-then-player-gt-LAST_PLAYER
-returns-then-player-gt-LAST_PLAYER c =
+pub returns-in_err-asker : goal.returns-in_err-asker
+returns-in_err-asker c =
     let a = c.args in
-    request_player a.players.now c.requires a.player a.range c.if-player-gt-LAST_PLAYER.true _ c.refuse.ensures
+    let q = no_player a.player _ (sym c.try_from.ensures ∙ c.in_err-asker.was) in
+    let x = err_from_is_err_and c.from_residual.result c.from_residual.ensures.1 in
+    let e : c.from_residual.result ≡ Err c.in_err-asker.field-0.0 = x.1 ∙ ap Err x.2 in
+    rw e (request_player a.players.now c.told-players a.player a.range q.0 _ (ap refusal q.1))
 
-pub returns-then-low-high : goal.returns-then-low-high
-returns-then-low-high c =
+pub returns-in_err-entries : goal.returns-in_err-entries
+returns-in_err-entries c =
     let a = c.args in
-    request_empty a.players.now c.requires a.player a.range (is_player _ c.if-player-gt-LAST_PLAYER.false) c.if-low-high.true _ c.refuse-then-low-high.ensures
+    let p = a_player a.player _ (sym c.try_from.ensures ∙ c.in_ok-asker.was) in
+    let q = bad_entries a.range _ (sym c.try_from-2.ensures ∙ c.in_err-entries.was) in
+    let x = err_from_is_err_and c.from_residual-in_err-entries.result c.from_residual-in_err-entries.ensures.1 in
+    let e : c.from_residual-in_err-entries.result ≡ Err c.in_err-entries.field-0.0 = x.1 ∙ ap Err x.2 in
+    rw e (request_bad a.players.now c.told-players a.player a.range p.1 q.0 _ (ap refusal q.1))
 
-pub returns-then-high-gt-ENTRIES : goal.returns-then-high-gt-ENTRIES
-returns-then-high-gt-ENTRIES c =
+pub returns-then-not-owns_all : goal.returns-then-not-owns_all
+returns-then-not-owns_all c =
     let a = c.args in
-    request_high a.players.now c.requires a.player a.range (is_player _ c.if-player-gt-LAST_PLAYER.false) c.if-low-high.false c.if-high-gt-ENTRIES.true _ c.refuse-then-high-gt-ENTRIES.ensures
-
-pub returns-then-not-all_are : goal.returns-then-not-all_are
-returns-then-not-all_are c =
-    let a = c.args in
-    request_owner a.players.now c.requires a.player a.range (is_player _ c.if-player-gt-LAST_PLAYER.false) c.if-low-high.false c.if-high-gt-ENTRIES.false (sym c.if-not-all_are.true ∙ c.all_are.ensures) _ c.refuse-then-not-all_are.ensures
-
-pub slice_bounds-scan_requesting-count : goal.slice_bounds-scan_requesting-count
-slice_bounds-scan_requesting-count c = lit≤ tt
-
-pub slice_bounds-scan_requesting-start : goal.slice_bounds-scan_requesting-start
-slice_bounds-scan_requesting-start c = lit≤ tt
-
-pub slice_bounds-scan_requesting-end : goal.slice_bounds-scan_requesting-end
-slice_bounds-scan_requesting-end c = has_requests c.requires
+    let p = a_player a.player _ (sym c.try_from.ensures ∙ c.in_ok-asker.was) in
+    let g = good_entries a.range _ (sym c.try_from-2.ensures ∙ c.in_ok-entries.was) in
+    request_owner a.players.now c.told-players a.player a.range p.1 g.1 g.2 (sym c.if-not-owns_all.true ∙ (rw (p.0, g.0) at c.owns_all.ensures)) _ refl
 
 pub returns-then-scan : goal.returns-then-scan
 returns-then-scan c =
-    request_again (asks (goal.at.returns-then-scan c).Else-not-all_are) c.scan_requesting-scan.ensures c.if-scan.true _ c.refuse-then-scan.ensures
+    request_again (asks (goal.at.returns-then-scan c).Else-not-owns_all) c.scan_for-scan.ensures c.if-scan.true _ refl
 
-pub returns-then-has_no_place : goal.returns-then-has_no_place
-returns-then-has_no_place c =
-    request_full (asks (goal.at.returns-then-has_no_place c).Else-not-all_are) c.scan_requesting-scan.ensures c.if-scan.false c.has_no_place.ensures c.if-has_no_place.true _ c.refuse-then-has_no_place.ensures
-
-pub bounds-players-0 : goal.bounds-players-0
-bounds-players-0 c = has_last c.requires
-
-pub returns-then-last-ge-SERIALS : goal.returns-then-last-ge-SERIALS
-returns-then-last-ge-SERIALS c =
-    request_spent (asks (goal.at.returns-then-last-ge-SERIALS c).Else-not-all_are) c.scan_requesting-scan.ensures c.if-scan.false c.has_no_place.ensures c.if-has_no_place.false c.if-last-ge-SERIALS.true _ c.refuse-then-last-ge-SERIALS.ensures
-
-pub overflow_mul-i : goal.overflow_mul-i
-overflow_mul-i c = (cells (goal.at.overflow_mul-i c).Else-not-all_are).row
-
-pub overflow_add-i : goal.overflow_add-i
-overflow_add-i c = (cells (goal.at.overflow_add-i c).Else-not-all_are).first
-
-pub overflow_add-i-2 : goal.overflow_add-i-2
-overflow_add-i-2 c = (cells (goal.at.overflow_add-i-2 c).Else-not-all_are).last
-
-pub clear-requires : goal.clear-requires
-clear-requires c =
-    let k = cells (goal.at.clear-requires c).Else-not-all_are in
-    (c.requires, k.ordered, k.inside)
-
-pub overflow_add-last : goal.overflow_add-last
-overflow_add-last c = next_fits _ c.if-last-ge-SERIALS.false
-
-pub add-requires : goal.add-requires
-add-requires c = c.clear.auto.players ∙ c.requires
-
-pub overflow_add-last-2 : goal.overflow_add-last-2
-overflow_add-last-2 c = next_fits _ c.if-last-ge-SERIALS.false
+pub returns-in_err-serial : goal.returns-in_err-serial
+returns-in_err-serial c =
+    let a = c.args in
+    let t = a.players.now in
+    let k = asks (goal.at.returns-in_err-serial c).Else-not-owns_all in
+    let x = err_from_is_err_and c.from_residual-in_err-serial.result c.from_residual-in_err-serial.ensures.1 in
+    let e : c.from_residual-in_err-serial.result ≡ Err c.in_err-serial.field-0.0 = x.1 ∙ ap Err x.2 in
+    rw e
+    (no_request t c.scan_for-scan.result.counts a.player (λ n. Moves (λ s. step s (RequestGuard a.player a.range)) t (refusal n) t) _ (sym c.next_request.ensures ∙ c.in_err-serial.was)
+    (λ h. request_full k c.scan_for-scan.ensures c.if-scan.false refl h _ refl)
+    (λ h n. request_spent k c.scan_for-scan.ensures c.if-scan.false refl h n _ refl))
 
 pub returns : goal.returns
 returns c =
-    request_done (asks (goal.at.returns c).Else-not-all_are) c.scan_requesting-scan.ensures c.if-scan.false c.has_no_place.ensures c.if-has_no_place.false c.if-last-ge-SERIALS.false
-    _ c.clear.ensures _ c.for_guard.ensures _ c.add.ensures _ c.issued.ensures
+    let a = c.args in
+    let t = a.players.now in
+    let p = a_player a.player _ (sym c.try_from.ensures ∙ c.in_ok-asker.was) in
+    let g = good_entries a.range _ (sym c.try_from-2.ensures ∙ c.in_ok-entries.was) in
+    let q = a_request t c.scan_for-scan.result.counts a.player _ (sym c.next_request.ensures ∙ c.in_ok-serial.was) in
+    request_done (asks (goal.at.returns c).Else-not-owns_all) c.scan_for-scan.ensures c.if-scan.false q.0 refl q.1
+    _ (rw (p.0, g.0) at c.clear.ensures) _ (c.for_guard.ensures ∙ ap (λ (n : ℕ). new_request n a.player 3 a.range.low a.range.high 0 0 false) q.2) _ c.add.ensures _ (ap issued q.2)

@@ -21,4 +21,4 @@ returns-then-live_guard-guard c =
 pub returns : goal.returns
 returns c =
     let a = c.args in
-    remember_live a.player a.entry a.guard a.overlapped a.version a.value a.players.now c.if-guard-eq0.false c.if-overlapped.false _ c.live_guard.ensures c.if-live_guard-guard.false _ c.cache.ensures
+    remember_live a.player a.entry a.guard a.overlapped a.version a.value a.players.now c.if-guard-eq0.false c.if-overlapped.false _ c.live_guard.ensures c.if-live_guard-guard.false _ (rw c.cell.ensures.cell at c.cache.ensures)

@@ -6,4 +6,5 @@ use Rattle.steps.proofs.responding.respond_read.Goals as goal
 pub returns : goal.returns
 returns c =
     let a = c.args in
-    read_responds a.r c.requires.1 a.players.now _ _ c.remember.ensures c.count.ensures
+    let t = a.asked.theirs in
+    read_responds a.asked.request a.asked.known a.players.now _ _ (rw (← t) at c.remember.ensures) (rw (← t) at c.count.ensures)

@@ -1,12 +1,14 @@
 -- `steps::responding::respond_to` meets its contract: a case for each kind.
 -- Assumes nothing.
+use mathlib.Core.Path.{sym, ◌∙◌}
+use Rattle.steps.proofs.AnswerLaws.{no_player}
 use Rattle.steps.proofs.RespondLaws.{load_responds, by_guard_request, by_read, by_write}
 use Rattle.steps.proofs.responding.respond_to.Goals as goal
 
-pub returns-then-r-gt-LAST_PLAYER : goal.returns-then-r-gt-LAST_PLAYER
-returns-then-r-gt-LAST_PLAYER c =
+pub returns-in_default : goal.returns-in_default
+returns-in_default c =
     let a = c.args in
-    load_responds a.r c.if-r-gt-LAST_PLAYER.true a.players.now _ c.write_reply.ensures
+    load_responds a.r (no_player a.r.player _ (sym c.try_from.ensures ∙ c.in_default.is)).0 a.players.now _ c.write_reply.ensures
 
 pub returns-then-r-eq-GUARD_REQUEST : goal.returns-then-r-eq-GUARD_REQUEST
 returns-then-r-eq-GUARD_REQUEST c =

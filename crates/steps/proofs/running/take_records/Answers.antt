@@ -1,6 +1,8 @@
-use mathlib.Core.Path.{refl}
+use mathlib.Core.Path.{refl, ap}
 use native.Mathlib.Omega.{arith}
+use Rattle.steps.specs.Answers.{answered}
 use Rattle.session.specs.Records.{Bytes}
+use Rattle.session.specs.Decoded.{decoded_of}
 use Rattle.session.proofs.RunLaws.{bytes_drop}
 use Rattle.steps.proofs.RunningLaws.{decoded_at, record_within, running_begins, ends, is_spent, is_refused, one_more}
 use borrow.Author.Rules.{rules}
@@ -31,7 +33,7 @@ pub overflow_add-place : goal.overflow_add-place
 overflow_add-place c =
     let l = c.loop-place in
     let a = c.args in
-    let e = decoded_at l.place a.session.now _ _ c.decode-found.ensures c.in-Record.is in
+    let e = decoded_at l.place a.session.now _ _ c.decode.ensures (ap decoded_of c.in-Ok.is) in
     let w = record_within l.place a.session.now _ _ l.invariant.0.inside e in
     omega (arith, w.1, c.requires.short)
 
@@ -39,7 +41,7 @@ pub loop-place-smaller : goal.loop-place-smaller
 loop-place-smaller c =
     let l = c.loop-place in
     let a = c.args in
-    let e = decoded_at l.place a.session.now _ _ c.decode-found.ensures c.in-Record.is in
+    let e = decoded_at l.place a.session.now _ _ c.decode.ensures (ap decoded_of c.in-Ok.is) in
     let w = record_within l.place a.session.now _ _ l.invariant.0.inside e in
     omega (arith, w.0, w.1)
 
@@ -48,18 +50,18 @@ unfolding Bytes
 loop-place-preserved c =
     let l = c.loop-place in
     let a = c.args in
-    let e = decoded_at l.place a.session.now _ _ c.decode-found.ensures c.in-Record.is in
+    let e = decoded_at l.place a.session.now _ _ c.decode.ensures (ap decoded_of c.in-Ok.is) in
     let bytes = bytes_drop l.place a.session.now (λ i. omega (arith, c.type_inv.session i)) in
-    (one_more a.left a.session.now a.replies.now _ l.taken l.place l.store l.players l.replies l.invariant.0 c.loop-place-test.true (omega (arith, c.if-left-taken.false)) bytes _ _ e (omega (arith, c.requires.room, c.if-left-taken.false)) c.apply-reply.result _ _ _ c.apply-reply.ensures c.put_reply.ensures, search rules, search rules, search rules)
+    (one_more a.left a.session.now a.replies.now _ l.taken l.place l.store l.players l.replies l.invariant.0 c.loop-place-test.true (omega (arith, c.if-left-taken.false)) bytes _ _ e (omega (arith, c.requires.room, c.if-left-taken.false)) (answered c.apply.result) _ _ _ c.apply.ensures (rw c.from-reply.ensures at c.put_reply.ensures), search rules, search rules, search rules)
 
-pub stopped-requires-in-Refused : goal.stopped-requires-in-Refused
-stopped-requires-in-Refused c = (omega arith, omega arith)
+pub stopped-requires-in-Err : goal.stopped-requires-in-Err
+stopped-requires-in-Err c = (omega arith, omega arith)
 
-pub returns-in-Refused : goal.returns-in-Refused
-returns-in-Refused c =
+pub returns-in-Err : goal.returns-in-Err
+returns-in-Err c =
     let l = c.loop-place in
     let a = c.args in
-    rw c.stopped-in-Refused.ensures (is_refused a.left a.session.now a.replies.now _ l.taken l.place l.store l.players l.replies l.invariant.0 c.loop-place-test.true (omega (arith, c.if-left-taken.false)) _ (decoded_at l.place a.session.now _ _ c.decode-found.ensures c.in-Refused.is))
+    rw c.stopped-in-Err.ensures (is_refused a.left a.session.now a.replies.now _ l.taken l.place l.store l.players l.replies l.invariant.0 c.loop-place-test.true (omega (arith, c.if-left-taken.false)) _ (decoded_at l.place a.session.now _ _ c.decode.ensures (ap decoded_of c.in-Err.is)))
 
 pub stopped-requires-2 : goal.stopped-requires-2
 stopped-requires-2 c = (omega arith, omega arith)

@@ -1,10 +1,27 @@
 -- `steps::store_steps::merge` meets its contract.
 -- Assumes nothing.
+use mathlib.Core.Path.{◌≡◌, sym, ap, ◌∙◌}
 use native.Mathlib.Omega.{arith}
+use Rattle.std.specs.Prelude.{Result, Err}
+use Rattle.std.proofs.lemmas.Result.{err_from_is_err_and}
+use Rattle.store.specs.Answers.{nothing, as_reply}
+use Rattle.store.specs.Calls.{done}
+use Rattle.store.specs.declared.refusal.Refusal.{Refusal}
 use Rattle.store.proofs.WordLaws.{merge_refines}
 use Rattle.steps.proofs.StoreStepLaws.{merge_shifts}
 use Rattle.steps.proofs.store_steps.merge.Goals as goal
 
+pub returns-in_err-merge : goal.returns-in_err-merge
+returns-in_err-merge c =
+    let a = c.args in
+    let x = err_from_is_err_and c.from_residual.result c.from_residual.ensures.1 in
+    let e : c.from_residual.result ≡ Err c.in_err-merge.field-0.0 = x.1 ∙ ap Err x.2 in
+    rw e
+    (merge_shifts a.store.now c.told-store a.entry _ _
+    (merge_refines a.entry (omega arith) (ap (λ (r : Result Unit Refusal). done (as_reply nothing r) c.merge.new.store) (sym c.in_err-merge.was) ∙ c.merge.ensures)))
+
 pub returns : goal.returns
 returns c =
-    merge_shifts c.args.store.now c.requires c.args.entry _ _ (merge_refines c.args.entry (omega arith) c.merge.ensures)
+    let a = c.args in
+    merge_shifts a.store.now c.told-store a.entry _ _
+    (merge_refines a.entry (omega arith) (ap (λ (r : Result Unit Refusal). done (as_reply nothing r) c.merge.new.store) (sym c.in_ok-merge.was) ∙ c.merge.ensures))

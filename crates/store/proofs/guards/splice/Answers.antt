@@ -1,22 +1,35 @@
--- `store::guards::splice` meets its contract.
--- Assumes nothing.
-use native.Mathlib.Omega.{arith}
-use lib.ListN.{length-set}
-use borrow.Author.Rules.{rules}
-use Rattle.store.proofs.Columns.{spliced_one, spliced_two}
+use Rattle.std.proofs.Common.{arith, ◌∙◌, ◌≡◌, ◌+◌, ◌-◌, ◌≤◌, length}
+use Rattle.store.proofs.Columns.{moved, cleared, cleared_none, cleared_put, spliced_put}
 use Rattle.store.proofs.guards.splice.Goals as goal
+use Rattle.store.proofs.guards.splice.Goals.{then-end-cut, else-end-cut}
 
-pub bounds-column-a-then-m-eq2 : goal.bounds-column-a-then-m-eq2
-bounds-column-a-then-m-eq2 c = simp length-set (search rules)
+-- the words behind the cut follow the new ones
+followed : (c : goal.After-slice_known-3-1) (i : c.args.cut.end ≤ c.args.cut.used) (j : c.args.cut.used ≤ length c.args.column.now) (h : c.args.cut.start + length c.args.new.now + (c.args.cut.used - c.args.cut.end) ≤ length c.args.column.now) → c.copy_within.new.self ≡ moved c.args.column.now c.args.new.now c.args.cut.start c.args.cut.end c.args.cut.used i j h
+followed c i j h = c.copy_within.ensures.after
 
-pub returns-then-m-eq2 : goal.returns-then-m-eq2
-returns-then-m-eq2 c =
-    let a = c.args in
-    rw (c.clear.ensures, c.shift.ensures)
-    (spliced_two a.column.now a.a a.b a.c a.x a.y (omega arith) (omega arith) a.m c.if-m-eq2.true (omega arith))
+-- zeros come after those
+over : (c : goal.After-slice_known-3-1) (i : c.args.cut.end ≤ c.args.cut.used) (j : c.args.cut.used ≤ length c.args.column.now) (h : c.args.cut.start + length c.args.new.now + (c.args.cut.used - c.args.cut.end) ≤ length c.args.column.now) → c.if-end-cut.column ≡ cleared c.args.column.now c.args.new.now c.args.cut.start c.args.cut.end c.args.cut.used i j h
+over c i j h =
+    let l = c.args.column.now in
+    let xs = c.args.new.now in
+    let a = c.args.cut.start in
+    let b = c.args.cut.end in
+    let n = c.args.cut.used in
+    let m = followed c i j h in
+    elim c.if-end-cut.branch [
+      | then-end-cut w ↦ w.column-is ∙ rw m (cleared_put l xs a b n i j h _ (rw m at (w.fill.ensures.after (λ y e. e))) w.if-end-cut.true)
+      | else-end-cut w ↦ w.column-is ∙ m ∙ cleared_none l xs a b n i j h w.if-end-cut.false
+    ]
 
-pub returns-else-m-eq2 : goal.returns-else-m-eq2
-returns-else-m-eq2 c =
-    let a = c.args in
-    rw (c.clear.ensures, c.shift.ensures)
-    (spliced_one a.column.now a.a a.b a.c a.x a.y (omega arith) (omega arith) a.m (omega (arith, c.if-m-eq2.false)) (omega arith))
+pub returns : goal.returns
+returns c =
+    let l = c.args.column.now in
+    let xs = c.args.new.now in
+    let a = c.args.cut.start in
+    let b = c.args.cut.end in
+    let n = c.args.cut.used in
+    let i : b ≤ n = omega arith in
+    let j : n ≤ length l = omega arith in
+    let h : a + length xs + (n - b) ≤ length l = omega arith in
+    let m : a + length xs - a ≡ length xs = omega arith in
+    rw (over c i j h, c.write_over.ensures) (spliced_put l xs a b n i j h _ m)

@@ -1,5 +1,3 @@
--- `store::rules::follows` meets its contract.
--- Assumes nothing.
 use Rattle.store.proofs.Turns.{follows_is}
 use Rattle.store.proofs.rules.follows.Goals as goal
 

@@ -1,37 +1,23 @@
--- `store::rules::table_holds` meets its contract.
--- Assumes nothing.
-use mathlib.Core.Path.{◌≡◌, sym, ◌∙◌}
-use mathlib.Core.Bool.{true, false, and-false}
-use lib.Dec.{eqb}
-use lib.ListN.{get_or, take, drop}
-use Rattle.store.specs.Table.{at_most, intervals}
-use borrow.Author.Tests.{eq-eqb, ne_eqb}
+use Rattle.std.proofs.Common.{rules, ◌≡◌, sym, ◌∙◌, true}
+use lib.ListN.{take, drop}
+use Rattle.store.specs.Table.{at_most, intervals, part}
 use Rattle.store.proofs.Turns.{valid_is}
+use Rattle.store.proofs.rules.table_holds.Goals.{then-store-eq1, else-store-eq1, then-at_most, else-at_most}
 use Rattle.store.proofs.rules.table_holds.Goals as goal
 
-pub returns-then-store-ne1 : goal.returns-then-store-ne1
-returns-then-store-ne1 c =
+pub returns-then-intervals_hold : goal.returns-then-intervals_hold
+unfolding part
+returns-then-intervals_hold c =
     let a = c.args in
-    rw (valid_is a.last a.store.now, ne_eqb (get_or a.store.now 0 0) 1 c.if-store-ne1.true)
-
-pub returns-then-not-at_most : goal.returns-then-not-at_most
-returns-then-not-at_most c =
-    let a = c.args in
-    let m : at_most 1 (take 256 a.store.now) ≡ false = sym c.at_most.ensures ∙ c.if-not-at_most.true in
-    rw (valid_is a.last a.store.now, m, and-false)
-
-pub returns-then-not-intervals_hold : goal.returns-then-not-intervals_hold
-returns-then-not-intervals_hold c =
-    let a = c.args in
-    let f : eqb (get_or a.store.now 0 0) 1 ≡ true = eq-eqb (get_or a.store.now 0 0) 1 c.if-store-ne1.false in
-    let m : at_most 1 (take 256 a.store.now) ≡ true = sym c.at_most.ensures ∙ c.if-not-at_most.false in
-    let i : intervals a.last (take 256 (drop 256 a.store.now)) (take 256 (drop 512 a.store.now)) ≡ false = sym c.intervals_hold.ensures ∙ c.if-not-intervals_hold.true in
-    rw (valid_is a.last a.store.now, f, m, i)
-
-pub returns : goal.returns
-returns c =
-    let a = c.args in
-    let f : eqb (get_or a.store.now 0 0) 1 ≡ true = eq-eqb (get_or a.store.now 0 0) 1 c.if-store-ne1.false in
-    let m : at_most 1 (take 256 a.store.now) ≡ true = sym c.at_most.ensures ∙ c.if-not-at_most.false in
-    let i : intervals a.last (take 256 (drop 256 a.store.now)) (take 256 (drop 512 a.store.now)) ≡ true = sym c.intervals_hold.ensures ∙ c.if-not-intervals_hold.false in
-    rw (valid_is a.last a.store.now, f, m, i) c.at_most-2.ensures
+    let t = a.store.now in
+    elim c.if-at_most.branch [
+      | then-at_most w ↦
+          elim c.if-store-eq1.branch [
+            | then-store-eq1 v ↦
+                let b : at_most 1 (take 256 t) ≡ true = sym v.at_most.ensures ∙ sym v.value-is ∙ w.if-at_most.true in
+                let i : intervals a.last (take 256 (drop 256 t)) (take 256 (drop 512 t)) ≡ true = rw (w.starts.ensures, w.guards.ensures) at (sym w.intervals_hold.ensures ∙ sym w.value-is ∙ c.if-intervals_hold.true) in
+                c.at_most-then-intervals_hold.ensures ∙ sym (valid_is a.last t ∙ rw (v.if-store-eq1.true, b, i))
+            | else-store-eq1 v ↦ search rules
+          ]
+      | else-at_most w ↦ search rules
+    ]

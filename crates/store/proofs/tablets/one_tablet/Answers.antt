@@ -1,16 +1,11 @@
-use mathlib.Core.Path.{refl, sym, ◌∙◌}
-use native.Mathlib.Omega.{arith}
-use Rattle.store.proofs.TabletLaws.{unbroken_stop, unbroken_more, unbroken_end}
+use Rattle.std.proofs.Common.{rules, tests, arith, eqb, ◌∙◌, ◌+◌, ◌-◌, take, drop}
+use Rattle.std.proofs.lemmas.Iterator.{YieldsList-from_slice}
+use Rattle.std.proofs.lemmas.Iterator.Search.{all_from_yields_List}
+use Rattle.store.proofs.TabletLaws.{unbroken_is}
 use Rattle.store.proofs.tablets.one_tablet.Goals as goal
 
-pub loop-e-init : goal.loop-e-init
-loop-e-init c = (omega arith, refl)
-
-pub returns-then-boundaries-e-ne0 : goal.returns-then-boundaries-e-ne0
-returns-then-boundaries-e-ne0 c = sym (unbroken_stop _ _ _ c.loop-e-test.true c.if-boundaries-e-ne0.true) ∙ c.loop-e.invariant.1
-
-pub loop-e-preserved : goal.loop-e-preserved
-loop-e-preserved c = (omega arith, sym (unbroken_more _ _ _ c.loop-e-test.true c.if-boundaries-e-ne0.false) ∙ c.loop-e.invariant.1)
-
 pub returns : goal.returns
-returns c = sym (unbroken_end _ _ _ c.loop-e-test.false) ∙ c.loop-e.invariant.1
+returns c =
+    let a = c.args in
+    all_from_yields_List (λ b. eqb b 0) _ _ _ c.all.ensures.ran (YieldsList-from_slice (take (a.entries.high - (a.entries.low + 1)) (drop (a.entries.low + 1) a.boundaries.now)) cc) (λ x b q k. search (rules, tests))
+    ∙ unbroken_is a.boundaries.now (a.entries.low + 1) _ (omega arith)

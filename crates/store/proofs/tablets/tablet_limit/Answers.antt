@@ -1,16 +1,10 @@
-use mathlib.Core.Path.{refl, sym, ◌∙◌}
-use native.Mathlib.Omega.{arith}
-use Rattle.store.proofs.TabletLaws.{end_here, end_more, end_last}
+use Rattle.std.proofs.Common.{arith, ◌+◌}
+use Rattle.store.proofs.Lists.{rest}
+use Rattle.store.proofs.TabletLaws.{end_is}
 use Rattle.store.proofs.tablets.tablet_limit.Goals as goal
 
-pub loop-e-init : goal.loop-e-init
-loop-e-init c = (omega arith, refl)
-
-pub returns-then-boundaries-e-eq1 : goal.returns-then-boundaries-e-eq1
-returns-then-boundaries-e-eq1 c = sym (end_here _ _ c.loop-e-test.true c.if-boundaries-e-eq1.true) ∙ c.loop-e.invariant.1
-
-pub loop-e-preserved : goal.loop-e-preserved
-loop-e-preserved c = (omega arith, sym (end_more _ _ c.loop-e-test.true c.if-boundaries-e-eq1.false) ∙ c.loop-e.invariant.1)
-
 pub returns : goal.returns
-returns c = sym (end_last _ _ c.loop-e-test.false) ∙ c.loop-e.invariant.1
+returns c =
+    let a = c.args in
+    let n = c.place_of.ensures.place in
+    rw (n, c.from-next.ensures, rest a.boundaries.now 256 c.told-boundaries (a.entry + 1)) (end_is a.boundaries.now a.entry _ (omega arith))

@@ -1,11 +1,9 @@
--- `store::unchecked::find_interval` meets its contract.
--- Assumes nothing.
-use mathlib.Core.Path.{◌∙◌}
-use Rattle.store.proofs.CallLaws.{interval_wrong_length, interval_is}
+use Rattle.std.proofs.Common.{rules}
+use Rattle.store.proofs.CallLaws.{interval_whole, interval_wrong_length}
 use Rattle.store.proofs.unchecked.find_interval.Goals as goal
 
-pub returns-then-store-ne-WORDS : goal.returns-then-store-ne-WORDS
-returns-then-store-ne-WORDS c = c.no_interval.ensures ∙ interval_wrong_length _ _ c.if-store-ne-WORDS.true
+pub returns-in_default : goal.returns-in_default
+returns-in_default c = interval_wrong_length c.args.store.now c.args.entry (search rules)
 
 pub returns : goal.returns
-returns c = interval_is _ _ c.if-store-ne-WORDS.false _ c.find-found.ensures
+returns c = interval_whole _ c.in-Some.store.now c.in-Some.ensures.cases c.args.entry _ (rw c.from.ensures at c.find-found.ensures.found)

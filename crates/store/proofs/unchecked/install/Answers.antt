@@ -1,39 +1,26 @@
--- `store::unchecked::install` meets its contract.
--- Assumes nothing.
-use mathlib.Core.Path.{sym, ◌∙◌}
+use Rattle.std.proofs.Common.{rules, ◌≡◌, ◌∙◌, sym}
+use Rattle.std.specs.Prelude.{Err}
+use Rattle.store.specs.Table.{part}
 use Rattle.store.specs.Words.{install_words}
-use Rattle.store.proofs.CallLaws.{wrong_length, install_empty, install_long, install_across, install_set}
+use Rattle.store.proofs.CallLaws.{tested_whole, install_bad, install_across, install_set}
 use Rattle.store.proofs.unchecked.install.Goals as goal
 
-pub returns-then-store-ne-WORDS : goal.returns-then-store-ne-WORDS
-returns-then-store-ne-WORDS c =
+pub returns-in_err-entries : goal.returns-in_err-entries
+returns-in_err-entries c =
     let a = c.args in
-    rw c.refuse.ensures
-    (wrong_length (install_words a.range a.guard) _ c.if-store-ne-WORDS.true)
-
-pub returns-then-high-low : goal.returns-then-high-low
-returns-then-high-low c =
-    let a = c.args in
-    rw c.refuse-then-high-low.ensures
-    (install_empty a.store.now c.if-store-ne-WORDS.false a.range a.guard c.if-high-low.true)
-
-pub returns-then-high-gt-ENTRIES : goal.returns-then-high-gt-ENTRIES
-returns-then-high-gt-ENTRIES c =
-    let a = c.args in
-    rw c.refuse-then-high-gt-ENTRIES.ensures
-    (install_long a.store.now c.if-store-ne-WORDS.false a.range a.guard c.if-high-low.false c.if-high-gt-ENTRIES.true)
+    let e : c.from_residual.result ≡ Err c.in_err-entries.field-0.0 = search rules in
+    rw e (tested_whole (install_words a.range a.guard) _ c.in-Some.store.now c.in-Some.ensures.cases _ (install_bad c.in-Some.store.now a.range a.guard _ c.in_err-entries.ensures))
 
 pub returns-then-not-one_tablet : goal.returns-then-not-one_tablet
+unfolding part
 returns-then-not-one_tablet c =
     let a = c.args in
-    rw c.answer.ensures
-    (install_across a.store.now c.if-store-ne-WORDS.false a.range a.guard c.if-high-low.false c.if-high-gt-ENTRIES.false
-    (sym c.one_tablet.ensures ∙ c.if-not-one_tablet.true))
+    tested_whole (install_words a.range a.guard) _ c.in-Some.store.now c.in-Some.ensures.cases _
+    (install_across c.in-Some.store.now a.range a.guard c.in_ok-entries.entries c.in_ok-entries.ensures (sym (rw c.boundaries.ensures at c.one_tablet.ensures) ∙ c.if-not-one_tablet.true))
 
 pub returns : goal.returns
+unfolding part
 returns c =
     let a = c.args in
-    rw c.answer-2.ensures
-    (install_set a.store.now c.if-store-ne-WORDS.false a.range a.guard c.if-high-low.false c.if-high-gt-ENTRIES.false
-    (sym c.one_tablet.ensures ∙ c.if-not-one_tablet.false)
-    _ c.set_over.ensures)
+    tested_whole (install_words a.range a.guard) _ c.in-Some.store.now c.in-Some.ensures.cases _
+    (install_set c.in-Some.store.now a.range a.guard c.in_ok-entries.entries c.in_ok-entries.ensures (sym (rw c.boundaries.ensures at c.one_tablet.ensures) ∙ c.if-not-one_tablet.false) _ c.set_over.ensures)

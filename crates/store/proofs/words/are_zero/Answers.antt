@@ -1,13 +1,8 @@
-use mathlib.Core.Path.{refl, sym, ◌∙◌}
-use native.Mathlib.Omega.{arith}
-use Rattle.store.proofs.Turns.{zero_turn, at_most_end}
+use Rattle.std.proofs.Common.{sym, ◌∙◌}
+use Rattle.store.proofs.Turns.{zero_turn}
 use Rattle.store.proofs.words.are_zero.Goals as goal
 
-pub loop-i-init : goal.loop-i-init
-loop-i-init c = (omega arith, refl)
-
-pub loop-i-preserved : goal.loop-i-preserved
-loop-i-preserved c = (omega arith, zero_turn _ _ c.loop-i.bits c.loop-i-test.true ∙ c.loop-i.invariant.1)
-
-pub returns : goal.returns
-returns c = sym (at_most_end _ _ c.loop-i.bits 0 c.loop-i-test.false) ∙ c.loop-i.invariant.1
+pub loop-word-preserved : goal.loop-word-preserved
+loop-word-preserved c =
+    let l = c.loop-word in
+    l.invariant ∙ sym (zero_turn c.args.part.now l.word-index l.bits c.loop-word-test.true)

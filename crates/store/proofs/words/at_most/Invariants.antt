@@ -1,16 +1,8 @@
--- `store::words::at_most` meets its contract. The loop's invariant: that no bit was gathered from the words before, and the test of the rest, is
--- the test of the whole.
--- Assumes nothing.
-use mathlib.Core.Path.{◌≡◌}
-use mathlib.Core.Bool.{◌&&◌}
-use Prim.Native.Nat.{◌≤◌, ◌-◌}
-use lib.Dec.{eqb}
-use lib.ListN.{length, drop}
+use Rattle.std.proofs.Common.{◌≡◌, drop}
+use Rattle.std.specs.Prelude.{◌&&◌, eqb}
 use Rattle.store.specs.Table.{at_most}
 use Rattle.store.proofs.words.at_most.Given as goal
 
-abbrev pub invariant-loop-i : goal.invariant-loop-i
-invariant-loop-i l = (l.i ≤ length l.part) × ((eqb l.bits 0 && at_most l.n (drop l.i l.part)) ≡ at_most l.n l.part)
-
-abbrev pub decreases-loop-i : goal.decreases-loop-i
-decreases-loop-i l = length l.part - l.i
+-- all are at most n where no bit was gathered from those seen, and those left are at most n
+abbrev pub invariant-loop-word : goal.invariant-loop-word
+invariant-loop-word l = at_most l.n l.part ≡ (eqb l.bits 0 && at_most l.n (drop l.word-index l.part))
