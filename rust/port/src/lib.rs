@@ -1,10 +1,11 @@
-//! The code of `crates/*/src` in Rust: the same tables changed in place, the same tests in the same
-//! order, the same passes over the words.
+//! The code of `crates/*/src` in Rust, as it was before it was rewritten (`docs/DECISIONS.md`, 207):
+//! the same tables changed in place, the same tests in the same order, the passes over the words that
+//! it had then.
 //!
 //! It is a translation of the proved code and no evidence by itself: what is wrong there would be
 //! wrong here. It serves as the baseline of `bench`, and stands in where the static library is not
 //! built. It knows the kinds 1 to 13, and refuses every later one with 26; loads that a table has in
-//! flight it takes as any request. The modules are those of the crates.
+//! flight it takes as any request. The modules are those that the crates had.
 
 #![forbid(unsafe_code)]
 #![warn(missing_docs)]
