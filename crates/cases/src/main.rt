@@ -27,7 +27,10 @@ fn main(rt: HostRuntime) -> io::Result<()> {
     let mut text = [0u8; ROOM];
     let mut room: &mut [u8] = &mut text;
     let read = io::copy(&mut rt.stdin().take(ROOM as u64), &mut room)?;
-    let mut tables = Tables::filled(0);
+    let mut tables = Tables {
+        store: [0; tables::STORE],
+        players: [0; tables::PLAYERS],
+    };
     let text = &text[..ROOM.min(read as usize)];
     play(&mut rt.stdout(), text, &mut tables)
 }

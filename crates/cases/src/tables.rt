@@ -10,11 +10,9 @@ pub(crate) struct Tables {
 }
 
 impl Tables {
-    // Tables in which every word is this one.
-    pub(crate) fn filled(word: u32) -> Tables {
-        Tables {
-            store: [word; STORE],
-            players: [word; PLAYERS],
-        }
+    // Makes every word this one, in place: whole tables by value would stand on the stack a second time.
+    pub(crate) fn fill(&mut self, word: u32) {
+        self.store.fill(word);
+        self.players.fill(word);
     }
 }

@@ -132,7 +132,7 @@ pub(crate) fn same_part<W: Write>(
     first: u32,
     second: u32,
 ) -> io::Result<()> {
-    *tables = Tables::filled(7);
+    tables.fill(7);
     compared(out, tables, |out, tables| {
         write!(out, "words {first} {second}")?;
         part_shown(out, tables, first as usize, second as usize)

@@ -6,7 +6,19 @@ pub const SIZE: usize = 12;
 
 pub const WORDS: usize = PLACES * SIZE;
 
-// The fields that a call writes alone.
+// The fields, after the serial.
+pub const PLAYER: usize = 1;
+
+pub const KIND: usize = 2;
+
+pub const LOW: usize = 3;
+
+pub const HIGH: usize = 4;
+
+pub const VALUE: usize = 5;
+
+pub const GUARD: usize = 6;
+
 pub const OVERLAPPED: usize = 7;
 
 pub const DELIVERED: usize = 8;

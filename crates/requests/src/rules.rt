@@ -93,10 +93,10 @@ impl Request {
 fn words_fit(place: &Place) -> bool
     ensures { result ≡ words_fit place.now }
 {
-    place[1] <= u32::from(layout::LOADER)
-        && place[2] <= 255
-        && place[3] <= 255
-        && place[4] <= 65535
+    place[layout::PLAYER] <= u32::from(layout::LOADER)
+        && place[layout::KIND] <= 255
+        && place[layout::LOW] <= 255
+        && place[layout::HIGH] <= 65535
         && place[layout::OVERLAPPED] <= 1
         && place[layout::DELIVERED] <= 1
         && place[layout::ABANDONED] <= 1
